@@ -14,13 +14,15 @@ use Rattle.bean_base.proofs.DayFacts.{same_day_Decides}
 use Rattle.bean_base.specs.Day.{number}
 use Rattle.bean_base.specs.declared.days.Day.{Day}
 use Rattle.bean_inventories.specs.AtCost.{is_at, is_lot_at}
-use Rattle.bean_inventories.specs.Costs.{AreNoted, IsAsTold, IsNoted, day_at}
+use Rattle.bean_inventories.specs.Costs.{IsAsTold, day_at}
 use Rattle.bean_lots.specs.Inventory.{position_of}
 use Rattle.bean_lots.specs.Lot.{same_cost, same_key, same_lot, same_text}
 use Rattle.bean_lots.specs.Slots.{positions}
 use Rattle.bean_inventories.specs.Kept.{key_on}
+use Rattle.bean_inventories.specs.Table.{AreNoted, IsNoted}
 use Rattle.bean_inventories.specs.declared.inventory.costs.CostDays.{CostDays}
 use Rattle.bean_inventories.specs.declared.inventory.costs.LotDay.TheVariants.{On}
+use Rattle.bean_inventories.specs.declared.inventory.table.LotTable.{LotTable}
 use Rattle.bean_lots.specs.declared.lot.Cost.{Cost}
 use Rattle.bean_lots.specs.declared.lot.Key.{Key}
 use Rattle.bean_lots.specs.declared.lot.Lot.{Lot}
@@ -28,7 +30,7 @@ use Rattle.bean_lots.specs.declared.lot.Position.{Position}
 use Rattle.bean_lots.proofs.LotFacts.{same_key_Decides}
 use Rattle.bean_lots.proofs.SlotFacts.{is_none, none_there}
 
-text_equiv : IsEquivalence same_text
+pub text_equiv : IsEquivalence same_text
 text_equiv = decided same_text bytes_eq-Decides
 
 -- nothing is held under a key without a slot
@@ -102,7 +104,7 @@ one_of k (e ∷ es) (suc i) p d =
         ∙ rest
 
 -- two tests that agree wherever something is known of a key find the same positions
-alike : (P : Key → Type 0) (p q : Position → Bool)
+pub alike : (P : Key → Type 0) (p q : Position → Bool)
     → ((k : Key) (n : ℤ) → P k → p (position_of k n) ≡ q (position_of k n))
     → (es : List (Key × ℤ)) → AllByRecursion {X = Key × ℤ} (λ e. P e.0) es
     → filter p (positions es) ≡ filter q (positions es)
@@ -115,11 +117,11 @@ alike P p q same (e ∷ es) a = by (int_eq e.1 (pos 0)) (alike P p q same es a.1
     by true rest = rest
     by false rest = λ i. cond (same e.0 e.1 a.0 i) (position_of e.0 e.1 ∷ rest i) (rest i)
 
-nothing : (es : List Position) → filter (λ (e : Position). false) es ≡ []
+pub nothing : (es : List Position) → filter (λ (e : Position). false) es ≡ []
 nothing [] = refl
 nothing (e ∷ es) = nothing es
 
-no_part : (b : Bool) → (b && false) ≡ false
+pub no_part : (b : Bool) → (b && false) ≡ false
 no_part true = refl
 no_part false = refl
 
@@ -156,8 +158,8 @@ not_told t cost l none told = by (same_cost cost l.cost) refl
         (subst (λ o. IsAsTold o l) (ap (day_at t) (sym (one_count cost l.cost s)) ∙ none) told)
 
 -- where a day is told of a cost, its lots of a currency have one key
-pub found_on : (t : CostDays) (currency : List ℕ) (cost : Cost) (day : Day)
-    → day_at t cost.count ≡ Some (On day) → (es : List (Key × ℤ)) → AreNoted t es
+pub found_on : (t : LotTable) (currency : List ℕ) (cost : Cost) (day : Day)
+    → day_at t.costs cost.count ≡ Some (On day) → (es : List (Key × ℤ)) → AreNoted t es
     → filter (λ (e : Position). same_key (key_on currency cost day) e.key) (positions es)
     ≡ filter (is_lot_at currency cost) (positions es)
 found_on t currency cost day on =
@@ -170,11 +172,11 @@ found_on t currency cost day on =
         ≡ (same_text c currency && is_at cost lot)
     agree c None told = ap (λ b. b && false) (text_equiv.symm currency c)
     agree c (Some l) told =
-        λ i. text_equiv.symm currency c i && same_as_told t cost day l on told i
+        λ i. text_equiv.symm currency c i && same_as_told t.costs cost day l on told.0 i
 
 -- where nothing is told of a cost, there are no lots at it
-pub found_nowhere : (t : CostDays) (currency : List ℕ) (cost : Cost)
-    → day_at t cost.count ≡ None → (es : List (Key × ℤ)) → AreNoted t es
+pub found_nowhere : (t : LotTable) (currency : List ℕ) (cost : Cost)
+    → day_at t.costs cost.count ≡ None → (es : List (Key × ℤ)) → AreNoted t es
     → filter (is_lot_at currency cost) (positions es) ≡ []
 found_nowhere t currency cost none es a =
     alike (λ k. IsNoted t k.lot) (is_lot_at currency cost) (λ e. false)
@@ -185,5 +187,5 @@ found_nowhere t currency cost none es a =
         → (same_text c currency && is_at cost lot) ≡ false
     agree c None told = no_part (same_text c currency)
     agree c (Some l) told =
-        ap (λ b. same_text c currency && b) (not_told t cost l none told)
+        ap (λ b. same_text c currency && b) (not_told t.costs cost l none told.0)
         ∙ no_part (same_text c currency)

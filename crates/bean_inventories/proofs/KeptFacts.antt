@@ -4,10 +4,10 @@ use Rattle.std.proofs.Common.{[], ◌∷◌, ◌++◌, length, position, Some, N
 use Rattle.std.specs.Map.{keys_of, lookup, remove_entry}
 use Rattle.std.specs.Ordering.{int_eq}
 use Rattle.indexmap.specs.IndexMap.{insert_entry, set_value_at}
-use Rattle.bean_inventories.specs.Costs.{AreTold, IsTold}
 use Rattle.bean_lots.specs.Lot.{same_key}
 use Rattle.bean_lots.specs.Inventory.{long_lot, short_lot}
 use Rattle.bean_inventories.specs.Known.{signs_of}
+use Rattle.bean_inventories.specs.Table.{AreTold, IsTold}
 use Rattle.bean_inventories.specs.Recount.{AreFew, IsCounted, IsRecounted}
 use Rattle.bean_lots.specs.Slots.{AreHoles, in_all, is_full}
 use Rattle.bean_inventories.specs.Kept.{AreDays, IsKept}
@@ -16,7 +16,7 @@ use Rattle.bean_lots.specs.declared.lot.Key.{Key}
 use Rattle.bean_lots.proofs.SlotFacts as slot
 use Rattle.bean_inventories.proofs.TallyFacts as tally
 use Rattle.bean_inventories.proofs.DayFacts as day
-use Rattle.bean_inventories.proofs.CostFacts as cost
+use Rattle.bean_inventories.proofs.TableFacts as table
 use Rattle.bean_inventories.proofs.EndFacts as end
 use Rattle.bean_lots.proofs.SweepFacts as swept
 use Rattle.bean_inventories.proofs.OrderLeftFacts.{days_left}
@@ -29,7 +29,7 @@ sum_after total all part new old e f sum g = omega (arith, e, f, g)
 pub counted_as_before : (s t : Slots) → IsKept s → t.counts ≡ s.counts
     → t.first ≡ s.first → t.days ≡ s.days
     → ((c : List ℕ) → signs_of t.lots c ≡ signs_of s.lots c)
-    → AreTold (t.lots.costs) s.counts → IsKept t
+    → AreTold (t.lots.told) s.counts → IsKept t
 counted_as_before s t h entries first days signs costs = record {
   holes =
       subst (λ i. AreHoles i t.counts) (sym first)
@@ -41,13 +41,13 @@ counted_as_before s t h entries first days signs costs = record {
   days =
       subst (λ d. AreDays d t.counts) (sym days)
       (subst (AreDays s.days) (sym entries) h.days);
-  costs = subst (AreTold (t.lots.costs)) (sym entries) costs;
+  told = subst (AreTold (t.lots.told)) (sym entries) costs;
 }
 
 -- a write, which keeps the holes in front
 over : (s t : Slots) (k : Key) (m n : ℤ) → IsKept s → lookup (same_key k) s.counts ≡ Some m
     → t.counts ≡ insert_entry same_key s.counts k n → AreHoles t.first t.counts
-    → t.days ≡ s.days → t.lots.costs ≡ s.lots.costs
+    → t.days ≡ s.days → t.lots.told ≡ s.lots.told
     → IsRecounted (signs_of s.lots) k m n (signs_of t.lots) → IsKept t
 over s t k m n h there entries holes days costs signs = record {
   holes = holes;
@@ -63,16 +63,16 @@ over s t k m n h there entries holes days costs signs = record {
       subst (λ d. AreDays d t.counts) (sym days)
       (subst (AreDays s.days) (sym entries)
       (λ e. day.written s.days.latest s.counts k m n there (h.days e)));
-  costs =
+  told =
       subst (λ x. AreTold x t.counts) (sym costs)
-      (subst (AreTold (s.lots.costs)) (sym entries)
-      (day.all_written (λ q. IsTold (s.lots.costs) q.lot) s.counts k m n there h.costs));
+      (subst (AreTold (s.lots.told)) (sym entries)
+      (day.all_written (λ q. IsTold (s.lots.told) q.lot) s.counts k m n there h.told));
 }
 
 pub written : (s t : Slots) (k : Key) (m n : ℤ) → IsKept s
     → lookup (same_key k) s.counts ≡ Some m → int_eq m (pos 0) ≡ false
     → t.counts ≡ insert_entry same_key s.counts k n
-    → t.first ≡ s.first → t.days ≡ s.days → t.lots.costs ≡ s.lots.costs
+    → t.first ≡ s.first → t.days ≡ s.days → t.lots.told ≡ s.lots.told
     → IsRecounted (signs_of s.lots) k m n (signs_of t.lots) → IsKept t
 written s t k m n h there some entries first days costs signs =
     over s t k m n h there entries
@@ -85,7 +85,7 @@ written s t k m n h there some entries first days costs signs =
 pub filled : (s t : Slots) (k : Key) (i : ℕ) (n : ℤ) → IsKept s
     → position (same_key k) (keys_of s.counts) ≡ Some i
     → lookup (same_key k) s.counts ≡ Some (pos 0) → t.counts ≡ set_value_at s.counts i n
-    → t.first ≤ s.first → t.first ≤ i → t.days ≡ s.days → t.lots.costs ≡ s.lots.costs
+    → t.first ≤ s.first → t.first ≤ i → t.days ≡ s.days → t.lots.told ≡ s.lots.told
     → IsRecounted (signs_of s.lots) k (pos 0) n (signs_of t.lots) → IsKept t
 filled s t k i n h at there entries first inside days costs signs =
     over s t k (pos 0) n h there (entries ∙ slot.written s.counts k i n at)
@@ -97,7 +97,7 @@ filled s t k i n h at there entries first inside days costs signs =
 pub pushed : (s t : Slots) (k : Key) → IsKept s → t.counts ≡ s.counts ++ (k, pos 0) ∷ []
     → t.first ≡ s.first
     → (AreDays s.days s.counts → AreDays t.days (s.counts ++ (k, pos 0) ∷ []))
-    → t.lots ≡ s.lots → IsTold (s.lots.costs) k.lot → IsKept t
+    → t.lots ≡ s.lots → IsTold (s.lots.told) k.lot → IsKept t
 pushed s t k h entries first days lots own = record {
   holes =
       subst (λ i. AreHoles i t.counts) (sym first)
@@ -111,16 +111,16 @@ pushed s t k h entries first days lots own = record {
       ∙ sym (tally.hole_more (short_lot c) (tally.not_short c) s.counts k)
       ∙ ap (in_all (short_lot c)) (sym entries);
   days = subst (AreDays t.days) (sym entries) (days h.days);
-  costs =
-      subst (λ x. AreTold x t.counts) (sym (ap (λ x. x.costs) lots))
-      (subst (AreTold (s.lots.costs)) (sym entries)
-      (day.all_pushed (λ q. IsTold (s.lots.costs) q.lot) s.counts k (pos 0) h.costs own));
+  told =
+      subst (λ x. AreTold x t.counts) (sym (ap (λ x. x.told) lots))
+      (subst (AreTold (s.lots.told)) (sym entries)
+      (day.all_pushed (λ q. IsTold (s.lots.told) q.lot) s.counts k (pos 0) h.told own));
 }
 
 pub hole_out : (s t : Slots) (k : Key) → IsKept s
     → lookup (same_key k) s.counts ≡ Some (pos 0)
     → t.counts ≡ remove_entry (same_key k) s.counts
-    → t.first ≡ s.first - 1 → t.days ≡ s.days → t.lots ≡ s.lots → t.lots.costs ≡ s.lots.costs → IsKept t
+    → t.first ≡ s.first - 1 → t.days ≡ s.days → t.lots ≡ s.lots → t.lots.told ≡ s.lots.told → IsKept t
 hole_out s t k h there entries first days signs costs = record {
   holes =
       subst (λ i. AreHoles i t.counts) (sym first)
@@ -138,16 +138,16 @@ hole_out s t k h there entries first days signs costs = record {
       subst (λ d. AreDays d t.counts) (sym days)
       (subst (AreDays s.days) (sym entries)
       (λ e. day.taken_out s.days.latest (same_key k) s.counts (h.days e)));
-  costs =
+  told =
       subst (λ x. AreTold x t.counts) (sym costs)
-      (subst (AreTold (s.lots.costs)) (sym entries)
-      (day.all_out (λ q. IsTold (s.lots.costs) q.lot) (same_key k) s.counts h.costs));
+      (subst (AreTold (s.lots.told)) (sym entries)
+      (day.all_out (λ q. IsTold (s.lots.told) q.lot) (same_key k) s.counts h.told));
 }
 
 -- without holes
 pub swept_out : (s t : Slots) → IsKept s → t.counts ≡ filter is_full s.counts
     → t.first ≡ 0 → AreDays t.days t.counts
-    → ((c : List ℕ) → signs_of t.lots c ≡ signs_of s.lots c) → t.lots.costs ≡ None → IsKept t
+    → ((c : List ℕ) → signs_of t.lots c ≡ signs_of s.lots c) → t.lots.told ≡ None → IsKept t
 swept_out s t h entries first days signs costs = record {
   holes = subst (λ i. AreHoles i t.counts) (sym first) tt;
   long = λ c.
@@ -159,14 +159,14 @@ swept_out s t h entries first days signs costs = record {
       ∙ sym (swept.counted (short_lot c) (tally.not_short c) s.counts)
       ∙ ap (in_all (short_lot c)) (sym entries);
   days = days;
-  costs = cost.nothing_told (t.lots.costs) t.counts costs;
+  told = table.nothing_told (t.lots.told) t.counts costs;
 }
 
 -- a front that has all that is held
 pub in_front : (s t : Slots) (n : ℕ) → IsKept s → t.counts ≡ take n s.counts
     → filter is_full (take n s.counts) ≡ filter is_full s.counts
     → t.first ≤ s.first → t.first ≤ n → AreDays t.days t.counts
-    → ((c : List ℕ) → signs_of t.lots c ≡ signs_of s.lots c) → AreTold (t.lots.costs) t.counts → IsKept t
+    → ((c : List ℕ) → signs_of t.lots c ≡ signs_of s.lots c) → AreTold (t.lots.told) t.counts → IsKept t
 in_front s t n h entries full first inside days signs costs = record {
   holes =
       subst (AreHoles t.first) (sym entries)
@@ -178,7 +178,7 @@ in_front s t n h entries full first inside days signs costs = record {
       ap (λ x. x.short) (signs c) ∙ h.short c ∙ same (short_lot c) (tally.not_short c)
       ∙ ap (in_all (short_lot c)) (sym entries);
   days = days;
-  costs = costs;
+  told = costs;
 }
   where
     same : (f : Key → ℤ → ℕ) (none : (k : Key) → f k (pos 0) ≡ 0)
@@ -193,11 +193,11 @@ front_days s n es h entries =
     subst (AreDays s.days) (sym entries)
     (λ e. end.days_in_front s.days.latest n s.counts (h.days e))
 
-pub front_costs : (s : Slots) (n : ℕ) (es : List (Key × ℤ)) → IsKept s
-    → es ≡ take n s.counts → AreTold (s.lots.costs) es
-front_costs s n es h entries =
-    subst (AreTold (s.lots.costs)) (sym entries)
-    (end.all_in_front {A = Key × ℤ} (λ e. IsTold (s.lots.costs) e.0.lot) n s.counts h.costs)
+pub front_told : (s : Slots) (n : ℕ) (es : List (Key × ℤ)) → IsKept s
+    → es ≡ take n s.counts → AreTold (s.lots.told) es
+front_told s n es h entries =
+    subst (AreTold (s.lots.told)) (sym entries)
+    (end.all_in_front {A = Key × ℤ} (λ e. IsTold (s.lots.told) e.0.lot) n s.counts h.told)
 
 pub same_days : (s : Slots) (es : List (Key × ℤ)) → IsKept s
     → es ≡ filter is_full s.counts → AreDays s.days es

@@ -4,7 +4,10 @@ pub mod DayFacts
 pub mod EndFacts
 pub mod OrderLeftFacts
 pub mod CostFacts
+pub mod LabelFacts
+pub mod TableFacts
 pub mod AtCostFacts
+pub mod LabelledFacts
 pub mod KeptFacts
 pub mod PartFacts
 pub mod HeldFacts

@@ -1,13 +1,10 @@
 -- On which day the lots of a cost stand, as the program notes it.
-use Rattle.std.specs.Prelude.{◌≡◌, ℤ, List, Option, Some, None, Box}
-use Rattle.std.specs.declared.alloc.Global.{Global}
-use Rattle.std.specs.List.{AllByRecursion}
+use Rattle.std.specs.Prelude.{◌≡◌, ℤ, Option, Some, None}
 use Rattle.std.specs.Ordering.{int_eq}
 use Rattle.indexmap.specs.IndexMap.{get}
 use Rattle.bean_inventories.specs.declared.inventory.costs.CostDays.{CostDays}
 use Rattle.bean_inventories.specs.declared.inventory.costs.LotDay.{LotDay}
 use Rattle.bean_inventories.specs.declared.inventory.costs.LotDay.TheVariants.{On, Several}
-use Rattle.bean_lots.specs.declared.lot.Key.{Key}
 use Rattle.bean_lots.specs.declared.lot.Lot.{Lot}
 
 -- what is told of the costs of a count
@@ -20,18 +17,3 @@ abbrev pub IsAsTold : Option LotDay → Lot → Type 0
 IsAsTold None lot = ⊥
 IsAsTold (Some (On day)) lot = (lot.day ≡ day) × (lot.label ≡ None)
 IsAsTold (Some Several) lot = Unit {0}
-
-abbrev pub IsNoted : CostDays → Option Lot → Type 0
-IsNoted t None = Unit {0}
-IsNoted t (Some lot) = IsAsTold (day_at t lot.cost.count) lot
-
-abbrev pub AreNoted : CostDays → List (Key × ℤ) → Type 0
-AreNoted t es = AllByRecursion {X = Key × ℤ} (λ e. IsNoted t e.0.lot) es
-
--- where there is no table, nothing is told of any cost
-abbrev pub IsTold : Option (Box CostDays Global) → Option Lot → Type 0
-IsTold None lot = Unit {0}
-IsTold (Some t) lot = IsNoted t.value lot
-
-abbrev pub AreTold : Option (Box CostDays Global) → List (Key × ℤ) → Type 0
-AreTold t es = AllByRecursion {X = Key × ℤ} (λ e. IsTold t e.0.lot) es

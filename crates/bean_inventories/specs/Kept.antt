@@ -10,9 +10,9 @@ use Rattle.bean_lots.specs.declared.lot.Cost.{Cost}
 use Rattle.bean_lots.specs.declared.lot.Key.{Key}
 use Rattle.bean_lots.specs.declared.lot.Lot.{Lot}
 use Rattle.bean_lots.specs.declared.lot.Position.{Position}
-use Rattle.bean_inventories.specs.Costs.{AreTold}
 use Rattle.bean_inventories.specs.Days.{IsNotBefore}
 use Rattle.bean_inventories.specs.Known.{signs_of}
+use Rattle.bean_inventories.specs.Table.{AreTold}
 use Rattle.bean_inventories.specs.declared.inventory.days.Days.{Days}
 use Rattle.bean_inventories.specs.declared.inventory.slots.Slots.{Slots}
 
@@ -23,6 +23,14 @@ held s = positions s.counts
 abbrev pub key_on : List ℕ → Cost → Day → Key
 key_on currency cost day =
     record { currency = currency; lot = Some (record { cost = cost; day = day; label = None }) }
+
+-- the key of a lot of that currency, cost and day, with a label
+abbrev pub key_of : List ℕ → Cost → Day → List ℕ → Key
+key_of currency cost day label =
+    record {
+      currency = currency;
+      lot = Some (record { cost = cost; day = day; label = Some label });
+    }
 
 -- a lot is of that day or an earlier one
 abbrev pub IsBy : ℤ → Option Lot → Type 0
@@ -42,10 +50,10 @@ abbrev pub AreDays : Days → List (Key × ℤ) → Type 0
 AreDays d es = d.in_order ≡ true → AreInOrder es × AreBy d.latest es
 
 -- the lots of each currency and sign are counted, slots below the first are empty, and where lots are said to be
--- in order they are; what is told of the costs of lots holds
+-- in order they are; what is told of lots holds
 pub record IsKept (s : Slots) : Type 0 where
   pub holes : AreHoles s.first s.counts
   pub long : (c : List ℕ) → (signs_of s.lots c).long ≡ in_all (long_lot c) s.counts
   pub short : (c : List ℕ) → (signs_of s.lots c).short ≡ in_all (short_lot c) s.counts
   pub days : AreDays s.days s.counts
-  pub costs : AreTold (s.lots.costs) s.counts
+  pub told : AreTold (s.lots.told) s.counts

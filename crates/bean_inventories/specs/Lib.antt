@@ -2,7 +2,10 @@ pub mod Days
 pub mod Signs
 pub mod Recount
 pub mod Costs
+pub mod Labels
+pub mod Table
 pub mod Known
 pub mod AtCost
+pub mod Labelled
 pub mod Kept
 pub mod Part

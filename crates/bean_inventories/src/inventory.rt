@@ -5,18 +5,21 @@ ghost use Rattle.std.specs.Int.{w128};
 ghost use Rattle.std.specs.Int.RustNames.{FitsSigned};
 ghost use Rattle.bean_inventories.specs.AtCost.{is_lot_at};
 ghost use Rattle.bean_inventories.specs.Days.{RiseInDays};
+ghost use Rattle.bean_inventories.specs.Labelled.{is_lot_labelled};
 ghost use Rattle.bean_lots.specs.Inventory.{IsInventory, added, count_of};
 ghost use Rattle.bean_lots.specs.Inventory as spec;
 
 mod costs;
 mod days;
 mod known;
+mod labels;
 mod part;
 mod positions;
 mod signs;
 mod slots;
+mod table;
 
-use bean_base::Currency;
+use bean_base::{Currency, Text};
 use bean_lots::{Cost, Key};
 pub use positions::Positions;
 pub use signs::Signs;
@@ -104,6 +107,19 @@ impl<'a> Inventory<'a> {
         ensures { IfSome result (λ own. own ≡ filter (is_lot_at currency.now cost.now) self.now) }
     {
         self.slots.positions_at(currency, cost)
+    }
+
+    /// The positions of the lots of a currency that have a label, in order of entry, where these are
+    /// known without a look at all that is held.
+    pub fn positions_labelled(
+        &self,
+        currency: &Currency<'_>,
+        label: &Text<'_>,
+    ) -> Option<Positions<'a, '_>>
+        ensures { IfSome result (λ own. own
+            ≡ filter (is_lot_labelled currency.now label.now) self.now) }
+    {
+        self.slots.positions_labelled(currency, label)
     }
 
     /// Whether nothing is held. Where it says no, something may have been.

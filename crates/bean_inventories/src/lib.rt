@@ -20,8 +20,9 @@
 //! What is held is looked at from either end. Where lots came in the order of their days,
 //! `Positions::about` finds those of a day by halves. Where there are more than a few,
 //! `positions_at` finds the lot of a cost in constant time, if the lots at costs of that number,
-//! whatever the currency, are of one day and without a label. What tells it takes some 60 bytes for
-//! each number that lots cost. No contract shows what is kept.
+//! whatever the currency, are of one day and without a label, and `positions_labelled` the lot of a
+//! label, if the lots that have it were bought at one cost on one day. What tells it takes some 60
+//! bytes for each number that lots cost, and some 120 for each label. No contract shows what is kept.
 #![tactic(auto)]
 
 pub mod inventory;

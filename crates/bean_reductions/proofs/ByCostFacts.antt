@@ -1,18 +1,18 @@
 -- The lots at a cost have all candidates of a selector that names it.
 use Rattle.std.proofs.Common.{◌≡◌, ℕ, ℤ, Bool, true, false, cond, ◌&&◌, filter, List, [], ◌∷◌}
-use Rattle.std.proofs.Common.{◌++◌, Option, Some, None, ◌+ℤ◌, refl, sym, ◌∙◌, ap}
+use Rattle.std.proofs.Common.{Option, Some, None, refl, ◌∙◌, ap}
 use Rattle.std.specs.Int.RustNames.{unsigned_abs}
 use Rattle.bean_inventories.specs.AtCost.{is_at, is_lot_at}
 use Rattle.bean_inventories.specs.Days.{has_day}
-use Rattle.bean_lots.specs.Inventory.{count_of, held_as, is_opposite}
+use Rattle.bean_lots.specs.Inventory.{is_opposite}
 use Rattle.bean_lots.specs.Lot.{same_cost, same_text}
 use Rattle.bean_lots.specs.declared.lot.Cost.{Cost}
 use Rattle.bean_lots.specs.declared.lot.Lot.{Lot}
 use Rattle.bean_lots.specs.declared.lot.Position.{Position}
-use Rattle.bean_reductions.specs.After.{AreSmall, after}
+use Rattle.bean_reductions.specs.After.{after}
 use Rattle.bean_reductions.specs.Candidate.{candidate_of, candidates, has_cost, has_label}
 use Rattle.bean_reductions.specs.declared.reduction.Selector.{Selector}
-use Rattle.bean_reductions.proofs.AfterFacts.{front}
+use Rattle.bean_reductions.proofs.ThoseFacts.{of_those}
 
 off : (currency cost same day label opposite : Bool) → cost ≡ same → (currency && same) ≡ false
     → (currency && (cost && day && label) && opposite) ≡ false
@@ -34,35 +34,6 @@ pub same_candidates : (s : Selector) (cost : Cost) (want : ℤ) (es taken : List
     → s.cost ≡ Some cost
     → candidates s want (after (filter (is_lot_at s.currency cost) es) taken)
     ≡ candidates s want (after es taken)
-same_candidates s cost want [] taken named = refl
-same_candidates s cost want (e ∷ es) taken named =
-    by (is_lot_at s.currency cost e) refl (same_candidates s cost want es taken named)
-  where
-    own : List Position
-    own = filter (is_lot_at s.currency cost) es
-
-    n : ℤ
-    n = e.count +ℤ count_of taken e.key
-
-    by : (b : Bool) → is_lot_at s.currency cost e ≡ b
-        → candidates s want (after own taken) ≡ candidates s want (after es taken)
-        → candidates s want (after (cond b (e ∷ own) own) taken)
-        ≡ candidates s want (held_as e.key n ++ after es taken)
-    by true t rest =
-        front s want e.key n (after own taken)
-        ∙ ap (λ l. candidate_of s want e.key.currency e.key.lot n ++ l) rest
-        ∙ sym (front s want e.key n (after es taken))
-    by false t rest =
-        rest
-        ∙ ap (λ l. l ++ candidates s want (after es taken))
-        (sym (none_of s cost want e.key.currency e.key.lot n named t))
-        ∙ sym (front s want e.key n (after es taken))
-
-pub small : (p : Position → Bool) (n : ℕ) (es : List Position) → AreSmall n es
-    → AreSmall n (filter p es)
-small p n [] a = tt
-small p n (e ∷ es) a = by (p e) (small p n es a.1)
-  where
-    by : (b : Bool) → AreSmall n (filter p es) → AreSmall n (cond b (e ∷ filter p es) (filter p es))
-    by true rest = (a.0, rest)
-    by false rest = rest
+same_candidates s cost want es taken named =
+    of_those s (is_lot_at s.currency cost) want
+    (λ e n other. none_of s cost want e.key.currency e.key.lot n named other) es taken

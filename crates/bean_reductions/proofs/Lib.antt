@@ -14,6 +14,8 @@ pub mod BackFacts
 pub mod LastFacts
 pub mod LastDayFacts
 pub mod PartFacts
+pub mod ThoseFacts
 pub mod ByCostFacts
+pub mod ByLabelFacts
 pub mod RestFacts
 mod Examples

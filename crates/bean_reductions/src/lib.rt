@@ -43,8 +43,9 @@
 //! the want. Under `Lifo` these are the first of the last day that has any; only where they are too
 //! few, the last are gathered, with all others of their days. Under `Strict` it ends at several
 //! candidates that come to more than the want, since these are ambiguous. Where a selector names a
-//! cost, and the inventory knows of which day the lots at it are, only the one lot that may be a
-//! candidate is looked at, under each method. `has_opposite` looks at counts alone.
+//! cost or a label, and the inventory knows of which day the lots at it are, or how those that have
+//! it were bought, only the one lot that may be a candidate is looked at, under each method.
+//! `has_opposite` looks at counts alone.
 #![tactic(auto)]
 
 mod cause;

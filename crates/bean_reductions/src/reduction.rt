@@ -3,6 +3,7 @@ ghost use Rattle.std.specs.Prelude.{◌≡◌};
 
 mod after;
 mod by_cost;
+mod by_label;
 mod front;
 mod last;
 mod queue;

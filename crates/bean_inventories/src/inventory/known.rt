@@ -1,13 +1,13 @@
 //! What is known of an inventory's lots, beside their slots. It lies apart from these, in memory
 //! that is taken with the first lot, since most inventories have none.
 ghost use Rattle.std.specs.Prelude.{◌≡◌, IfOk, List, None, OnErr, OnOk, ℕ};
-ghost use Rattle.bean_inventories.specs.Costs.{AreTold, IsTold};
 ghost use Rattle.bean_inventories.specs.Known.{signs_in, signs_of};
 ghost use Rattle.bean_inventories.specs.Recount.{AreFew, IsCounted, IsRecounted};
 ghost use Rattle.bean_inventories.specs.Signs.{no_signs, signs_at};
+ghost use Rattle.bean_inventories.specs.Table.{AreTold, IsTold};
 
-use super::costs::{CostDays, costs_with};
 use super::signs::{SignTable, Signs};
+use super::table::{LotTable, table_with};
 use bean_base::Currency;
 use bean_lots::Key;
 use key_counts::Run;
@@ -31,19 +31,19 @@ fn table_of<'a>(
 #[derive(Drop)]
 pub(crate) struct KnownLots<'a> {
     signs: Option<Box<SignTable<'a>>>,
-    /// What is told of costs; none where there are few slots.
-    pub costs: Option<Box<CostDays>>,
+    /// What is told of lots; none where there are few slots.
+    pub told: Option<Box<LotTable<'a>>>,
 }
 
 impl<'a> KnownLots<'a> {
     /// No lots. Takes no memory.
     pub(crate) fn none() -> KnownLots<'a>
         ensures signs { (c : List ℕ) → signs_of result c ≡ no_signs }
-        ensures costs { result.costs ≡ None }
+        ensures told { result.told ≡ None }
     {
         KnownLots {
             signs: None,
-            costs: None,
+            told: None,
         }
     }
 
@@ -69,7 +69,7 @@ impl<'a> KnownLots<'a> {
         requires few { AreFew (signs_of self.old) }
         ensures ok { OnOk result
             (IsRecounted (signs_of self.old) key.now before after (signs_of self.new)) }
-        ensures costs { self.new.costs ≡ self.old.costs }
+        ensures told { self.new.told ≡ self.old.told }
         ensures err { OnErr result ((c : List ℕ) → signs_of self.new c ≡ signs_of self.old c) }
     {
         if key.lot.is_none() {
@@ -81,19 +81,19 @@ impl<'a> KnownLots<'a> {
         counted
     }
 
-    /// Notes the lot of a key that comes behind some slots, for its cost.
+    /// Notes the lot of a key that comes behind some slots.
     pub(crate) fn note(
         &mut self,
         alloc: Global,
         slots: &Run<'_, Key<'a>>,
-        key: &Key<'_>,
+        key: &Key<'a>,
     ) -> Result<(), AllocError>
-        requires { AreTold self.old.costs slots.now }
+        requires { AreTold self.old.told slots.now }
         ensures signs { (c : List ℕ) → signs_of self.new c ≡ signs_of self.old c }
-        ensures slots { AreTold self.new.costs slots.now }
-        ensures own { OnOk result (IsTold self.new.costs key.now.lot) }
+        ensures slots { AreTold self.new.told slots.now }
+        ensures own { OnOk result (IsTold self.new.told key.now.lot) }
     {
-        self.costs = costs_with(alloc, self.costs.take(), slots, key)?;
+        self.told = table_with(alloc, self.told.take(), slots, key)?;
         Ok(())
     }
 }

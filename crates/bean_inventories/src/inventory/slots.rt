@@ -12,22 +12,24 @@ ghost use Rattle.std.specs.Int.RustNames.{FitsSigned};
 ghost use Rattle.std.specs.List.{IsDistinct};
 ghost use Rattle.std.specs.Map.{lookup, keys_of, values_of};
 ghost use Rattle.bean_inventories.specs.AtCost.{is_lot_at};
-ghost use Rattle.bean_inventories.specs.Costs.{IsTold};
 ghost use Rattle.bean_lots.specs.Inventory.{IsInventory, added, count_of};
 ghost use Rattle.bean_inventories.specs.Known.{signs_of};
 ghost use Rattle.bean_lots.specs.Lot.{same_key};
 ghost use Rattle.bean_inventories.specs.Recount.{IsCounted, IsRecounted};
 ghost use Rattle.bean_lots.specs.Slots.{is_full};
-ghost use Rattle.bean_inventories.specs.Kept.{IsKept, held, key_on};
+ghost use Rattle.bean_inventories.specs.Kept.{IsKept, held, key_of, key_on};
+ghost use Rattle.bean_inventories.specs.Labelled.{is_lot_labelled};
+ghost use Rattle.bean_inventories.specs.Table.{IsTold};
 ghost use Rattle.bean_lots.specs.Slots as spec;
 ghost use Rattle.bean_lots.specs.declared.lot.Key.{Key as KeyValue};
 
 use super::costs::LotDay;
 use super::days::Days;
 use super::known::KnownLots;
+use super::labels::LabelLot;
 use super::positions::Positions;
 use super::signs::Signs;
-use bean_base::{Currency, Day};
+use bean_base::{Currency, Day, Text};
 use bean_lots::{Cost, Key, Lot};
 use key_counts::{KeyCounts, Run};
 use std::alloc::{AllocError, Global};
@@ -45,6 +47,20 @@ fn key_on<'k>(currency: &Currency<'k>, cost: &Cost<'k>, day: Day) -> Key<'k>
             cost: cost.lend(),
             day,
             label: None,
+        }),
+    }
+}
+
+/// The key of a lot of a currency that was bought at a cost on a day and has a label.
+fn key_of<'k>(currency: &Currency<'k>, cost: &Cost<'k>, day: Day, label: &Text<'k>) -> Key<'k>
+    ensures { result ≡ key_of currency.now cost.now day label.now }
+{
+    Key {
+        currency: currency.lend(),
+        lot: Some(Lot {
+            cost: cost.lend(),
+            day,
+            label: Some(label.lend()),
         }),
     }
 }
@@ -172,7 +188,7 @@ impl<'a> Slots<'a> {
         self.first = self.first.min(end);
         if end == 0 {
             self.days = Days::new();
-            self.lots.costs = None;
+            self.lots.told = None;
         }
     }
 
@@ -183,7 +199,7 @@ impl<'a> Slots<'a> {
         ensures counts { self.new.counts ≡ self.old.counts }
         ensures first { self.new.first ≡ self.old.first }
         ensures days { self.new.days ≡ self.old.days }
-        ensures costs { self.new.lots.costs ≡ self.old.lots.costs }
+        ensures told { self.new.lots.told ≡ self.old.lots.told }
         ensures ok { OnOk result
             (IsRecounted (signs_of self.old.lots) key.now before after (signs_of self.new.lots)) }
         ensures err { OnErr result (IsKept self.new) }
@@ -246,7 +262,7 @@ impl<'a> Slots<'a> {
             self.first = 0;
             self.holes = 0;
             self.days = Days::new();
-            self.lots.costs = None;
+            self.lots.told = None;
         }
     }
 
@@ -262,7 +278,7 @@ impl<'a> Slots<'a> {
         self.first = 0;
         self.holes = 0;
         // Another table tells of no lot that is gone.
-        self.lots.costs = None;
+        self.lots.told = None;
         if self.counts.is_empty() {
             self.days = Days::new();
         }
@@ -280,15 +296,15 @@ impl<'a> Slots<'a> {
         }
     }
 
-    /// Notes the lot of a key that comes, for its cost.
-    fn note_cost(&mut self, key: &Key<'_>) -> Result<(), AllocError>
+    /// Notes the lot of a key that comes.
+    fn note_lot(&mut self, key: &Key<'a>) -> Result<(), AllocError>
         requires { IsKept self.old }
         ensures counts { self.new.counts ≡ self.old.counts }
         ensures first { self.new.first ≡ self.old.first }
         ensures signs { (c : List ℕ) → signs_of self.new.lots c ≡ signs_of self.old.lots c }
         ensures days { self.new.days ≡ self.old.days }
         ensures kept { IsKept self.new }
-        ensures own { OnOk result (IsTold (self.new.lots.costs) key.now.lot) }
+        ensures own { OnOk result (IsTold (self.new.lots.told) key.now.lot) }
     {
         let alloc = self.counts.alloc();
         self.lots.note(alloc, &self.counts.as_run(), key)
@@ -302,7 +318,7 @@ impl<'a> Slots<'a> {
         ensures same { held self.new ≡ held self.old }
         ensures ok { OnOk result (self.new.counts ≡ self.old.counts ++ (key.now, pos 0) ∷ []) }
     {
-        self.note_cost(key)?;
+        self.note_lot(key)?;
         let days = self.days.with(key);
         self.counts.push(key.lend(), 0)?;
         self.days = days;
@@ -376,12 +392,34 @@ impl<'a> Slots<'a> {
         ensures { IfSome result (λ own. own
             ≡ filter (is_lot_at currency.now cost.now) (held self.now)) }
     {
-        let Some(costs) = &self.lots.costs else {
+        let Some(table) = &self.lots.told else {
             return None;
         };
-        match costs.day_at(cost.count) {
+        match table.costs.day_at(cost.count) {
             Some(LotDay::On(day)) => Some(self.positions_of(&key_on(currency, cost, day))),
             Some(LotDay::Several) => None,
+            None => Some(Positions::new(Run::new(), false)),
+        }
+    }
+
+    /// What is held in lots of a currency that have a label, in order of entry, where that is known.
+    pub(crate) fn positions_labelled(
+        &self,
+        currency: &Currency<'_>,
+        label: &Text<'_>,
+    ) -> Option<Positions<'a, '_>>
+        requires { IsKept self.now }
+        ensures { IfSome result (λ own. own
+            ≡ filter (is_lot_labelled currency.now label.now) (held self.now)) }
+    {
+        let Some(table) = &self.lots.told else {
+            return None;
+        };
+        match table.labels.lot_at(label) {
+            Some(LabelLot::At(cost, day)) => {
+                Some(self.positions_of(&key_of(currency, &cost, day, label)))
+            }
+            Some(LabelLot::Several) => None,
             None => Some(Positions::new(Run::new(), false)),
         }
     }

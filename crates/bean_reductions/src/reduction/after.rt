@@ -14,7 +14,8 @@ ghost use Rattle.bean_reductions.specs.Reduction.{Reduces};
 ghost use Rattle.bean_reductions.specs.Rest.{HasAllLeft};
 ghost use Rattle.bean_reductions.specs.Take.{units_of};
 
-use super::by_cost::{positions_at_cost, reduce_from};
+use super::by_cost::reduce_from;
+use super::by_label::known_positions;
 use super::front::{Front, front_for};
 use super::last::reduce_last_in;
 use super::queue::{Candidate, push_candidate, selects};
@@ -108,7 +109,7 @@ pub fn reduce_after<'a>(
         Reduces method (candidates selector.now want (after inventory.now taken.now)) want result }
 {
     let want = units.scaled(8);
-    if let Some(part) = positions_at_cost(inventory, selector) {
+    if let Some(part) = known_positions(inventory, selector) {
         return reduce_from(alloc, part, taken, selector, want, method);
     }
     if is_back_enough(inventory, method) {

@@ -20,7 +20,7 @@ use Rattle.bean_reductions.proofs.reduction.after.reduce_after.Goals as goal
 
 pub reduce_from-requires-clause-held : goal.reduce_from-requires-clause-held
 reduce_from-requires-clause-held c =
-    let known = c.positions_at_cost.ensures.small in
+    let known = c.known_positions.ensures.small in
     subst (λ o. IfSome o (λ part. (n : ℕ) → AreSmall n c.args.inventory.now → AreSmall n part))
     c.in-Some.is known _ c.requires.held
 
@@ -36,7 +36,7 @@ returns-in-Some c =
     let all =
     subst (λ o. IfSome o (λ part. (want : ℤ) (taken : List Position)
     → candidates s want (after part taken) ≡ candidates s want (after es taken)))
-    c.in-Some.is c.positions_at_cost.ensures.all in
+    c.in-Some.is c.known_positions.ensures.all in
     subst (λ w. Reduces c.args.method (candidates s w (after es taken)) w c.reduce_from.result) want
     (subst (λ l. Reduces c.args.method l wide c.reduce_from.result) (all wide taken)
     c.reduce_from.ensures)

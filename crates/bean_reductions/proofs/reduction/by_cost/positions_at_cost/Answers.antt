@@ -1,14 +1,10 @@
-use Rattle.std.proofs.Common.{Option, Some, None, IfSome, ap, subst, sym, ◌∙◌}
+use Rattle.std.proofs.Common.{ap, subst, sym, ◌∙◌}
 use Rattle.bean_inventories.specs.AtCost.{is_lot_at}
 use Rattle.bean_reductions.specs.After.{AreSmall, after}
 use Rattle.bean_reductions.specs.Candidate.{candidates}
-use Rattle.bean_reductions.proofs.ByCostFacts.{same_candidates, small}
+use Rattle.bean_reductions.proofs.ByCostFacts.{same_candidates}
+use Rattle.bean_reductions.proofs.ThoseFacts.{if_some, small}
 use Rattle.bean_reductions.proofs.reduction.by_cost.positions_at_cost.Goals as goal
-
-if_some : {A : Type 0} (P Q : A → Type 0) (o : Option A) → ((x : A) → P x → Q x) → IfSome o P
-    → IfSome o Q
-if_some P Q (Some x) more h = more x h
-if_some P Q None more h = tt
 
 pub returns-in-Some-clause-all : goal.returns-in-Some-clause-all
 returns-in-Some-clause-all c =

@@ -3,7 +3,7 @@ use Rattle.std.specs.Map.{lookup}
 use Rattle.bean_lots.specs.Lot.{same_key}
 use Rattle.bean_lots.specs.Slots.{positions}
 use Rattle.bean_inventories.specs.Kept.{AreDays}
-use Rattle.bean_inventories.proofs.CostFacts.{nothing_told}
+use Rattle.bean_inventories.proofs.TableFacts.{nothing_told}
 use Rattle.bean_inventories.proofs.EndFacts.{none_full}
 use Rattle.bean_inventories.proofs.KeptFacts as kept
 use Rattle.bean_lots.proofs.SweepFacts.{same}

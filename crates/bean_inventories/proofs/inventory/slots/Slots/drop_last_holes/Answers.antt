@@ -2,7 +2,7 @@ use Rattle.std.proofs.Common.{◌≡◌, ℕ, List, [], take, refl, sym, ap, sub
 use Rattle.std.proofs.Common.{arith}
 use Rattle.bean_lots.specs.Slots.{positions}
 use Rattle.bean_inventories.specs.Kept.{AreDays}
-use Rattle.bean_inventories.proofs.CostFacts.{nothing_told}
+use Rattle.bean_inventories.proofs.TableFacts.{nothing_told}
 use Rattle.bean_inventories.proofs.KeptFacts as kept
 use Rattle.bean_lots.proofs.SweepFacts.{same}
 use Rattle.bean_inventories.proofs.inventory.slots.Slots.drop_last_holes.Goals as goal
@@ -35,7 +35,7 @@ returns-else-end-eq0-clause-kept c =
     (omega (arith, c.min-self.ensures))
     (kept.front_days c.args.self.now end c.truncate.new.self c.requires
     c.truncate.ensures) (λ cur. refl)
-    (kept.front_costs c.args.self.now end c.truncate.new.self c.requires
+    (kept.front_told c.args.self.now end c.truncate.new.self c.requires
     c.truncate.ensures)
 
 pub returns-else-end-eq0-clause-same : goal.returns-else-end-eq0-clause-same

@@ -18,7 +18,7 @@ returns-clause-kept c =
     c.requires.hole
     (c.set.ensures ∙ ap (λ l. set_value_at l c.args.index n) c.recount.ensures.counts)
     (omega (arith, c.min-self.ensures, c.recount.ensures.first))
-    (omega (arith, c.min-self.ensures)) c.recount.ensures.days c.recount.ensures.costs
+    (omega (arith, c.min-self.ensures)) c.recount.ensures.days c.recount.ensures.told
     c.in_ok-recount.ensures.ok
 
 pub returns-clause-ok : goal.returns-clause-ok

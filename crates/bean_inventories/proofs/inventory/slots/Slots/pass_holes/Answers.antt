@@ -17,6 +17,6 @@ loop-self-preserved c =
         long = h.long;
         short = h.short;
         days = h.days;
-        costs = h.costs;
+        told = h.told;
       };
     }

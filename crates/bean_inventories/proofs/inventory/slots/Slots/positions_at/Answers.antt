@@ -1,7 +1,8 @@
 use Rattle.std.proofs.Common.{◌≡◌, Some, None, filter, to_z, of_z, arith, ap, subst, sym, ◌∙◌}
 use Rattle.std.specs.Int.{w128}
 use Rattle.std.proofs.lemmas.Int.{ints}
-use Rattle.bean_inventories.specs.Costs.{AreNoted, AreTold, day_at}
+use Rattle.bean_inventories.specs.Costs.{day_at}
+use Rattle.bean_inventories.specs.Table.{AreNoted, AreTold}
 use Rattle.bean_lots.specs.Lot.{same_key}
 use Rattle.bean_lots.specs.Slots.{positions}
 use Rattle.bean_inventories.specs.declared.inventory.costs.LotDay.TheVariants.{On}
@@ -17,10 +18,10 @@ returns-in-Some-On c =
     let t = c.deref.result.now in
     let noted : AreNoted t es =
     subst (λ x. AreNoted x es) (sym c.deref.ensures)
-    (subst (λ o. AreTold o es) c.in-Some.is c.requires.costs) in
+    (subst (λ o. AreTold o es) c.in-Some.is c.requires.told) in
     let wide : to_z w128 (of_z w128 cost.count) ≡ cost.count = omega (arith, ints, cost.small) in
-    let on : day_at t cost.count ≡ Some (On day) =
-    sym (c.day_at.ensures ∙ ap (day_at t) wide) ∙ c.in-Some-On.is
+    let on : day_at t.costs cost.count ≡ Some (On day) =
+    sym (c.day_at.ensures ∙ ap (day_at t.costs) wide) ∙ c.in-Some-On.is
     ∙ ap Some c.in-Some-On.field-0-is in
     c.positions_of.ensures
     ∙ ap (λ k. filter (λ (e : Position). same_key k e.key) (positions es)) c.key_on.ensures
@@ -33,9 +34,9 @@ returns-in-None c =
     let t = c.deref.result.now in
     let noted : AreNoted t es =
     subst (λ x. AreNoted x es) (sym c.deref.ensures)
-    (subst (λ o. AreTold o es) c.in-Some.is c.requires.costs) in
+    (subst (λ o. AreTold o es) c.in-Some.is c.requires.told) in
     let wide : to_z w128 (of_z w128 cost.count) ≡ cost.count = omega (arith, ints, cost.small) in
-    let none : day_at t cost.count ≡ None =
-    sym (c.day_at.ensures ∙ ap (day_at t) wide) ∙ c.in-None.is in
+    let none : day_at t.costs cost.count ≡ None =
+    sym (c.day_at.ensures ∙ ap (day_at t.costs) wide) ∙ c.in-None.is in
     c.new-in-None.ensures ∙ ap positions c.new.ensures
     ∙ sym (found_nowhere t c.args.currency.now cost none es noted)

@@ -34,7 +34,7 @@ leave_hole-requires c =
     c.set.ensures ∙ ap (λ m. set_value_at m c.args.index n) c.recount.ensures.counts
     ∙ slot.written es k c.args.index n c.requires.at in
     kept.written s _ k c.args.before n c.requires.kept c.requires.count some entries
-    c.recount.ensures.first c.recount.ensures.days c.recount.ensures.costs
+    c.recount.ensures.first c.recount.ensures.days c.recount.ensures.told
     (subst (λ m. IsRecounted (signs_of s.lots) k m n (signs_of t.lots)) wide
     c.in_ok-recount.ensures.ok)
 
@@ -66,7 +66,7 @@ returns-else-after-eq0-clause-kept c =
     c.set.ensures ∙ ap (λ m. set_value_at m c.args.index n) c.recount.ensures.counts
     ∙ slot.written es k c.args.index n c.requires.at in
     kept.written s _ k c.args.before n c.requires.kept c.requires.count some entries
-    c.recount.ensures.first c.recount.ensures.days c.recount.ensures.costs
+    c.recount.ensures.first c.recount.ensures.days c.recount.ensures.told
     (subst (λ m. IsRecounted (signs_of s.lots) k m n (signs_of t.lots)) wide
     c.in_ok-recount.ensures.ok)
 

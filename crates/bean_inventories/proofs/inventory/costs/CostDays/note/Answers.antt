@@ -2,7 +2,7 @@ use Rattle.std.proofs.Common.{to_z, of_z, subst, sym}
 use Rattle.std.specs.Int.{w128}
 use Rattle.bean_inventories.specs.Costs.{IsAsTold}
 use Rattle.bean_inventories.proofs.CostFacts.{still}
-use Rattle.bean_inventories.proofs.inventory.costs.CostDays.note_lot.Goals as goal
+use Rattle.bean_inventories.proofs.inventory.costs.CostDays.note.Goals as goal
 
 pub returns-clause-others : goal.returns-clause-others
 returns-clause-others c =

@@ -1,6 +1,6 @@
 use Rattle.std.proofs.Common.{add-one, take}
-use Rattle.bean_inventories.proofs.CostFacts.{all_still, one_more}
-use Rattle.bean_inventories.proofs.inventory.costs.costs_of.Goals as goal
+use Rattle.bean_inventories.proofs.TableFacts.{all_still, one_more}
+use Rattle.bean_inventories.proofs.inventory.table.told_by.Goals as goal
 
 pub loop-index-preserved : goal.loop-index-preserved
 loop-index-preserved c =
@@ -8,6 +8,6 @@ loop-index-preserved c =
     let i = c.loop-index.index in
     rw add-one
     (one_more c.note.new.self i slots _ _ c.slot_at.ensures
-    (all_still c.loop-index.costs c.note.new.self (take i slots) c.note.ensures.others
+    (all_still c.loop-index.table c.note.new.self (take i slots) c.note.ensures.others
     c.loop-index.invariant)
     c.in_ok-note.ensures.own)
