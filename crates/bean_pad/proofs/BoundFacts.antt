@@ -42,6 +42,12 @@ pub near_push : (ts : List Passed) (t : Passed) → AreNear ts → IsNear t → 
 near_push [] t all near = (near, tt)
 near_push (u ∷ ts) t all near = (all.0, near_push ts t all.1 near)
 
+pub near_at : (ts : List Passed) (i : ℕ) (t : Passed) → AreNear ts → i < length ts
+    → t ≡ get_or ts i t → IsNear t
+near_at [] i t all within is = absurd (omega arith)
+near_at (u ∷ ts) zero t all within is = subst IsNear (sym is) all.0
+near_at (u ∷ ts) (suc i) t all within is = near_at ts i t all.1 (omega arith) is
+
 -- the notes of the pads from one on
 pub notes_from : (ps : List NotedPad) (k : ℕ) (p : NotedPad) → k < length ps → p ≡ get_or ps k p
     → notes_in (drop k ps) ≡ length p.notes + notes_in (drop (suc k) ps)

@@ -2,6 +2,7 @@ pub mod Examples
 pub mod TrailFacts
 pub mod WithinFacts
 pub mod BoundFacts
+pub mod FlatFacts
 pub mod NotedFacts
 pub mod OutcomeFacts
 pub mod InsertedFacts

@@ -9,13 +9,11 @@ use std::test::Fail;
 const FILES: [(&str, &str); 2] = [
     (
         "l",
-        "option \"operating_currency\" \"USD\"\noption \"booking_method\" \"FIFO\"\
-         \ninclude \"a\"\noption \"operating_currency\" \"CHF\"\n",
+        "option \"operating_currency\" \"USD\"\ninclude \"a\"\noption \"operating_currency\" \"CHF\"\n",
     ),
     (
         "a",
-        "option \"title\" \"Books\"\noption \"operating_currency\" \"EUR\"\
-         \noption \"booking_method\" \"NONE\"\n",
+        "option \"title\" \"Books\"\noption \"operating_currency\" \"EUR\"\n",
     ),
 ];
 
@@ -33,22 +31,6 @@ fn are_operating(loaded: &Loaded<'_>, texts: &[&str]) -> bool {
     true
 }
 
-/// Whether these are the booking methods, in this order, each with the number of the text and with
-/// the line that it stands at.
-fn are_methods(loaded: &Loaded<'_>, wanted: &[(&str, usize, usize)]) -> bool {
-    let methods = loaded.methods();
-    if methods.len() != wanted.len() {
-        return false;
-    }
-    for (one, (text, file, line)) in methods.iter().zip(wanted) {
-        let is_there = one.place.file == *file && one.place.line == *line;
-        if !is_there || one.method != Text::new(text) {
-            return false;
-        }
-    }
-    true
-}
-
 #[test]
 fn settings_in_reading_order(rt: HostRuntime) -> Result<(), Fail> {
     let mut store = store_of(rt.alloc(), &FILES, 0)?;
@@ -56,6 +38,5 @@ fn settings_in_reading_order(rt: HostRuntime) -> Result<(), Fail> {
     let loaded = load(rt.alloc(), &texts)?;
     assert!(rt; loaded.title() == Some(Text::new("Books")));
     assert!(rt; are_operating(&loaded, &["USD", "EUR", "CHF"]));
-    assert!(rt; are_methods(&loaded, &[("FIFO", 0, 2), ("NONE", 1, 3)]));
     Ok(())
 }

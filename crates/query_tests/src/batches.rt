@@ -1,6 +1,7 @@
-//! Batches.
+//! Turns of runs, side by side.
 
-use crate::ledgers::{COUNT, count_of_few, dollars};
+use crate::files::{COUNT, SORTED, count_of_few};
+use crate::ledgers::dollars;
 use crate::words::{add_words, answer_words, turn_word};
 use posting_table::Ledger;
 use query_batch::{Batch, BatchCause, Member};
@@ -9,13 +10,6 @@ use query_verifier::check_file;
 use std::alloc::{AllocError, Global};
 use std::test::Fail;
 use verified_program::Checked;
-
-/// `SELECT number ORDER BY number DESC` at the widest bounds.
-const SORTED: [u8; 41] = [
-    0x42, 0x51, 0x4c, 0x43, 0x00, 0x02, 0x00, 0x3d, 0x09, 0x00, 0x14, 0x1c, 0x00, 0x00, 0x01, 0x00,
-    0x01, 0x00, 0x06, 0x6e, 0x75, 0x6d, 0x62, 0x65, 0x72, 0x00, 0x01, 0x00, 0x00, 0x00, 0x00, 0x00,
-    0x00, 0x01, 0x00, 0x00, 0x01, 0x03, 0x0b, 0x00, 0x00,
-];
 
 /// What a turn of a batch told.
 fn told_word(told: Result<Turn, BatchCause>) -> &'static str {
@@ -56,58 +50,62 @@ fn take(
     Ok(told)
 }
 
-/// The same of programs of these files.
+/// The same of programs of these files, over a ledger of so many dollars.
 fn take_of(
     alloc: Global,
     files: &[&[u8]],
-    ledger: &Ledger<'_>,
+    postings: usize,
     turns: &[(usize, u64)],
-) -> Result<String, AllocError> {
+) -> Result<String, Fail> {
+    let ledger = dollars(alloc, postings)?;
     let mut programs = Vec::new(alloc);
     for file in files {
         match check_file(alloc, file) {
             Ok(program) => programs.push(program)?,
-            Err(_) => return Err(AllocError),
+            Err(_) => return Err(Fail::from("a file that is accepted")),
         }
     }
-    take(alloc, programs.as_slice(), ledger, turns)
+    Ok(take(alloc, programs.as_slice(), &ledger, turns)?)
 }
 
 #[test]
 fn batch_starts_with_ample_memory(rt: HostRuntime) -> Result<(), Fail> {
-    let ledger = dollars(rt.alloc(), 8)?;
     let few = count_of_few(7);
     let files = [COUNT.as_slice(), &COUNT, &COUNT, &few];
     let first = [(2, 1), (0, 1), (2, 1), (1, 1), (3, 1), (4, 1)];
-    let told = take_of(rt.alloc(), &files, &ledger, &first)?;
+    let told = take_of(rt.alloc(), &files, 8, &first)?;
     let wanted = "going; going; going; going; failed; no such run; \
         no answer; no answer; no answer; M1";
     assert_eq!(rt; told.as_str(), wanted);
     let all = [(2, 8), (0, 9), (2, 1), (1, 9)];
-    let told = take_of(rt.alloc(), &files, &ledger, &all)?;
+    let told = take_of(rt.alloc(), &files, 8, &all)?;
     let wanted = "going; done; done; done; 8, steps 9, groups 1; 8, steps 9, groups 1; \
         8, steps 9, groups 1; M1";
     assert_eq!(rt; told.as_str(), wanted);
     Ok(())
 }
 
-/// Rounds in which a run that counts and one that sorts have turns of 1000 steps.
-fn rounds(alloc: Global, count: usize) -> Result<Vec<(usize, u64)>, AllocError> {
-    let mut turns = Vec::new(alloc);
-    for _ in 0..count {
-        turns.push((0, 1000))?;
-        turns.push((1, 1000))?;
-    }
-    Ok(turns)
-}
-
 #[test]
-fn a_short_run_waits_for_no_long_one(rt: HostRuntime) -> Result<(), Fail> {
-    let ledger = dollars(rt.alloc(), 100_000)?;
+fn turns_stop_between_steps(rt: HostRuntime) -> Result<(), Fail> {
     let files = [COUNT.as_slice(), &SORTED];
-    let turns = rounds(rt.alloc(), 101)?;
-    let told = take_of(rt.alloc(), &files, &ledger, &turns)?;
-    let end = "done; going; 100000, steps 100001, groups 1; no answer";
-    assert!(rt; told.as_str().ends_with(end));
+    let all = [(0, 0), (0, 4), (0, 4), (1, 9), (0, 1), (0, 5), (1, 1)];
+    for (count, postings, wanted) in [
+        (0, 8, "no answer; no answer"),
+        (3, 8, "going; going; going; no answer; no answer"),
+        (
+            5,
+            8,
+            "going; going; going; going; done; 8, steps 9, groups 1; no answer",
+        ),
+        (
+            7,
+            8,
+            "going; going; going; going; done; done; going; 8, steps 9, groups 1; no answer",
+        ),
+        (1, 0, "done; no number, steps 0, groups 0; no answer"),
+    ] {
+        let told = take_of(rt.alloc(), &files, postings, &all[..count])?;
+        assert_eq!(rt; told.as_str(), wanted);
+    }
     Ok(())
 }

@@ -1,8 +1,8 @@
-//! Ledgers and programs that the tests run.
-ghost use Rattle.std.specs.Prelude.{IfOk, ◌≤◌, length};
-ghost use Rattle.posting_table.specs.Parts.{HasShortTexts, HasSmallParts, IsShortSet};
+//! Ledgers that the tests' programs run over.
+ghost use Rattle.std.specs.Prelude.{IfOk};
+ghost use Rattle.posting_table.specs.Parts.{HasShortTexts, HasSmallParts};
 
-use bean_base::{Flag, Slice, parse_account, parse_currency, parse_day};
+use bean_base::{Flag, parse_account, parse_currency, parse_day};
 use bean_lots::{Key, Position};
 use limits::MOST_POSTINGS;
 use posting_entries::{Entry, EntryFlag, EntryParts, Metadata, NoExtras, PlainText, Shared};
@@ -11,31 +11,6 @@ use query_values::TextSet;
 use std::alloc::Global;
 use std::test::Fail;
 
-/// `SELECT count(*)` at the bounds 1000000, 20 and 28, in the first version.
-pub const COUNT: [u8; 43] = [
-    0x42, 0x51, 0x4c, 0x43, 0x00, 0x01, 0x00, 0x0f, 0x42, 0x40, 0x14, 0x1c, 0x01, 0x00, 0x00, 0x00,
-    0x01, 0x00, 0x08, 0x63, 0x6f, 0x75, 0x6e, 0x74, 0x28, 0x2a, 0x29, 0x00, 0x00, 0x00, 0x01, 0x00,
-    0x00, 0x00, 0x00, 0x01, 0x00, 0x00, 0x00, 0x00, 0x01, 0x07, 0x00,
-];
-
-/// The same with at most so many postings.
-pub fn count_of_few(postings: u8) -> [u8; 43] {
-    let mut bytes = COUNT;
-    bytes[7] = 0;
-    bytes[8] = 0;
-    bytes[9] = postings;
-    bytes
-}
-
-/// A set of one text.
-fn set_of<'a>(alloc: Global, text: &'a str) -> Result<TextSet<'a>, Fail>
-    requires { length text.now ≤ 100 }
-    ensures { IfOk result (λ set. IsShortSet set) }
-{
-    let texts = Vec::from_array(alloc, [Slice::new(text)])?;
-    Ok(TextSet::new(texts))
-}
-
 /// What the postings of a lunch have in common.
 fn lunch(alloc: Global) -> Result<Entry<'static>, Fail>
     ensures { IfOk result (λ entry. HasShortTexts entry) }
@@ -43,9 +18,9 @@ fn lunch(alloc: Global) -> Result<Entry<'static>, Fail>
     let parts = EntryParts {
         payee: None,
         narration: PlainText::lent("Lunch"),
-        tags: Shared::new(alloc, set_of(alloc, "trip")?)?,
-        links: Shared::new(alloc, set_of(alloc, "a-1")?)?,
-        accounts: set_of(alloc, "Assets:Cash")?,
+        tags: Shared::new(alloc, TextSet::new(Vec::new(alloc)))?,
+        links: Shared::new(alloc, TextSet::new(Vec::new(alloc)))?,
+        accounts: TextSet::new(Vec::new(alloc)),
         metadata: Metadata::empty(),
         date: parse_day("2014-01-02")?,
         flag: EntryFlag::Written(Flag::Complete),

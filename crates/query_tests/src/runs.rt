@@ -1,9 +1,10 @@
-//! Runs, whole and in turns.
+//! Runs, whole.
 
-use crate::ledgers::{COUNT, count_of_few, dollars};
-use crate::words::{add_words, answer_words, turn_word};
+use crate::files::{COUNT, count_of_few};
+use crate::ledgers::dollars;
+use crate::words::answer_words;
 use posting_table::Ledger;
-use query_machine::{Run, run};
+use query_machine::run;
 use query_verifier::check_file;
 use std::alloc::{AllocError, Global};
 use std::test::Fail;
@@ -29,41 +30,6 @@ fn answered_by(alloc: Global, file: &[u8], ledger: &Ledger<'_>) -> Result<String
     }
 }
 
-/// Where a run stands, and what it answers, if it does.
-fn standing_words(alloc: Global, run: &Run<'_, '_>) -> Result<String, AllocError> {
-    let mut told = String::from_str(alloc, turn_word(run.standing()))?;
-    if let Some(answer) = run.answer() {
-        let words = answer_words(alloc, answer)?;
-        add_words(&mut told, &words)?;
-    }
-    Ok(told)
-}
-
-/// Where turns lead a run, and what it answers then.
-fn after(
-    alloc: Global,
-    program: &Checked<'_>,
-    ledger: &Ledger<'_>,
-    turns: &[u64],
-) -> Result<String, AllocError> {
-    let mut run = match Run::start(alloc, program, ledger) {
-        Ok(run) => run,
-        Err(refusal) => return String::from_str(alloc, refusal.code()),
-    };
-    for k in turns {
-        run.turn(*k);
-    }
-    standing_words(alloc, &run)
-}
-
-/// The same of the program that counts.
-fn count_after(alloc: Global, ledger: &Ledger<'_>, turns: &[u64]) -> Result<String, AllocError> {
-    match check_file(alloc, &COUNT) {
-        Ok(program) => after(alloc, &program, ledger, turns),
-        Err(refusal) => String::from_str(alloc, refusal.code()),
-    }
-}
-
 #[test]
 fn runs_with_ample_memory(rt: HostRuntime) -> Result<(), Fail> {
     let ledger = dollars(rt.alloc(), 3)?;
@@ -80,26 +46,5 @@ fn runs_with_ample_memory(rt: HostRuntime) -> Result<(), Fail> {
         let told = answered_by(rt.alloc(), file, &ledger)?;
         assert_eq!(rt; told.as_str(), wanted);
     }
-    Ok(())
-}
-
-#[test]
-fn turns_stop_between_steps(rt: HostRuntime) -> Result<(), Fail> {
-    let (ledger, empty) = (dollars(rt.alloc(), 8)?, dollars(rt.alloc(), 0)?);
-    let done = "done; 8, steps 9, groups 1";
-    let nothing = "done; no number, steps 0, groups 0";
-    let all = [0, 4, 4, 1, 5];
-    for (count, wanted) in [
-        (0, "going"),
-        (1, "going"),
-        (3, "going"),
-        (4, done),
-        (5, done),
-    ] {
-        let told = count_after(rt.alloc(), &ledger, &all[..count])?;
-        assert_eq!(rt; told.as_str(), wanted);
-    }
-    let told = count_after(rt.alloc(), &empty, &all[..1])?;
-    assert_eq!(rt; told.as_str(), nothing);
     Ok(())
 }

@@ -1,9 +1,18 @@
-use Rattle.std.proofs.Common.{◌≡◌, ◌+◌, length, arith, ap, ◌∙◌, sym, subst, cond, Some, rules}
+use Rattle.std.proofs.Common.{◌≡◌, ℕ, suc, ◌+◌, [], ◌∷◌, ◌++◌, length, arith, ap, ◌∙◌, sym, subst}
+use Rattle.std.proofs.Common.{cond, Some, rules, length-append}
 use Rattle.std.specs.Str.{bytes_eq}
 use Rattle.bean_pad.specs.Sums.{number_at}
-use Rattle.bean_pad.specs.Trail.{AreNear, notes_in}
+use Rattle.std.proofs.lemmas.List.{reverse-append}
+use Rattle.bean_pad.specs.Trail.{AreNear, notes_in, trail_of}
+use Rattle.bean_pad.specs.declared.check.Passed.TheVariants as passed
 use Rattle.bean_pad.proofs.BoundFacts.{below_set, near_push, notes_push}
 use Rattle.bean_pad.proofs.padder.Padder.pad.Goals as goal
+
+one_step : {s n : ℕ} → s ≡ n → s + 1 ≡ suc n
+one_step e = omega arith
+
+one_behind : {a b n : ℕ} → a ≡ b + 1 → b ≡ n → a ≡ suc n
+one_behind e f = omega arith
 
 pub returns-clause-bounded : goal.returns-clause-bounded
 returns-clause-bounded c =
@@ -27,4 +36,33 @@ returns-clause-bounded c =
       trail = subst AreNear (sym c.in_ok-push-2.ensures.items)
           (near_push _ _ c.requires.bounded.trail tt);
       passed = let h = c.requires.bounded.passed in omega (arith, trail);
+    }
+
+pub returns-clause-follows : goal.returns-clause-follows
+returns-clause-follows c = λ past h.
+    let old = c.args.self.now in
+    let len : c.len.result ≡ length old.pads.items = search rules in
+    let more : length c.push.new.self.items ≡ length old.pads.items + 1 =
+    ap length c.in_ok-push.ensures.items ∙ length-append old.pads.items (c.new.result ∷ []) in
+    record {
+      sums = h.sums;
+      paddings = h.paddings;
+      before = h.before;
+      numbers = λ a.
+          c.in_ok-set.ensures a
+          ∙ (λ i. cond (bytes_eq c.args.pad.account a) (Some ((len ∙ h.count) i)) (h.numbers a i));
+      pads =
+          c.in_ok-push.ensures.items
+          ∙ (λ i. h.pads i ++ record {
+            pad = c.new.ensures.pad i;
+            day = c.new.ensures.day i;
+            place = c.new.ensures.place i;
+            notes = c.new.ensures.notes i;
+          } ∷ []);
+      count = one_behind more h.count;
+      trail =
+          c.in_ok-push-2.ensures.items
+          ∙ (λ i. h.trail i ++ passed.Pad ∷ [])
+          ∙ sym (reverse-append (passed.Pad ∷ []) (trail_of past));
+      steps = one_step h.steps;
     }
