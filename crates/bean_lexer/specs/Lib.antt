@@ -5,5 +5,6 @@ pub mod InGap
 pub mod Between
 pub mod Lookahead
 pub mod Tokens
+pub mod Found
 pub mod OneListOfTokens
 pub mod ToCome

@@ -33,6 +33,7 @@
 
 mod classes;
 mod digits;
+mod expected;
 mod found;
 mod gaps;
 mod kind;

@@ -1,6 +1,6 @@
 //! Accounts, currencies, tags and links.
 ghost use Rattle.std.specs.Prelude.{◌≡◌, ℕ, ◌+◌, ◌<◌, ◌≤◌, ◌&&◌, ◌||◌, ◌==◌, false, true, nat_lt};
-ghost use Rattle.std.specs.Prelude.{nat_eq, length, slice_index, IsTrue, take, drop, min, MatchOption};
+ghost use Rattle.std.specs.Prelude.{nat_eq, length, slice_index, IsTrue, take, drop, min, MatchOption, IfSome};
 ghost use Rattle.std.specs.List.{prefix_len};
 ghost use Rattle.std.specs.Cmp.Lexicographic.{pointwise};
 ghost use Rattle.std.specs.Char.{is_ascii_digit, is_ascii_uppercase};
@@ -12,6 +12,7 @@ ghost use Rattle.theory.specs.LongestFront.{IsLongestFront, HasNoFront};
 ghost use Rattle.bean_lexer.specs.Lookahead as lookahead;
 ghost use Rattle.bean_lexer.specs.Lookahead.{is_currency_form};
 ghost use Rattle.bean_lexer.specs.Tokens.{IsToken};
+ghost use Rattle.bean_lexer.specs.declared.kind.Kind.TheVariants as kinds;
 
 use crate::classes::{InComponent, InCurrency, InName};
 use crate::found::Found;
@@ -45,12 +46,63 @@ pub fn account_or_currency(bytes: &[u8]) -> Found
             len: 3,
         };
     }
-    match account_len(bytes) {
-        Some(len) => Found {
-            kind: Kind::Account,
-            len,
-        },
+    match account_at(bytes) {
+        Some(found) => found,
         None => currency_or_truth(bytes),
+    }
+}
+
+/// The account at the front, if one stands there.
+#[inline(always)]
+pub fn account_at(bytes: &[u8]) -> Option<Found>
+    requires some { 0 < length bytes.now }
+    requires capital { IsTrue (is_ascii_uppercase (slice_index bytes.now 0)) }
+    ensures token { MatchOption result (HasNoFront is_account bytes.now)
+        (λ found. IsToken bytes.now found.kind found.len) }
+    ensures kind { IfSome result (λ found. found.kind ≡ kinds.Account) }
+    ensures boundary { IfSome result
+        (λ found. IsUtf8 bytes.now → IsCharBoundary bytes.now found.len) }
+{
+    let len = account_len(bytes)?;
+    Some(Found {
+        kind: Kind::Account,
+        len,
+    })
+}
+
+/// The currency at the front, if one stands there. Most are told by their first four bytes.
+#[inline(always)]
+pub fn currency_at(bytes: &[u8]) -> Option<Found>
+    requires some { 0 < length bytes.now }
+    requires capital { IsTrue (is_ascii_uppercase (slice_index bytes.now 0)) }
+    ensures token { IfSome result (λ found. IsToken bytes.now found.kind found.len) }
+    ensures kind { IfSome result (λ found. found.kind ≡ kinds.Currency) }
+    ensures boundary { IfSome result
+        (λ found. IsUtf8 bytes.now → IsCharBoundary bytes.now found.len) }
+{
+    if is_code(bytes) {
+        return Some(Found {
+            kind: Kind::Currency,
+            len: 3,
+        });
+    }
+    other_currency(bytes)
+}
+
+/// The same of a currency that isn't told so.
+#[inline(never)]
+fn other_currency(bytes: &[u8]) -> Option<Found>
+    requires some { 0 < length bytes.now }
+    requires capital { IsTrue (is_ascii_uppercase (slice_index bytes.now 0)) }
+    ensures token { IfSome result (λ found. IsToken bytes.now found.kind found.len) }
+    ensures kind { IfSome result (λ found. found.kind ≡ kinds.Currency) }
+    ensures boundary { IfSome result
+        (λ found. IsUtf8 bytes.now → IsCharBoundary bytes.now found.len) }
+{
+    let found = account_or_currency(bytes);
+    match found.kind {
+        Kind::Currency => Some(found),
+        _ => None,
     }
 }
 

@@ -7,7 +7,7 @@ ghost use Rattle.bean_parser.specs.declared.block.Outcome.TheVariants as outcome
 ghost use Rattle.bean_parser.specs.Outcome.{Gives};
 
 use crate::block::{Outcome, fault_at, read_block};
-use crate::directives::Directives;
+use crate::directives::{Directives, Next};
 use crate::reader::BlockReader;
 use crate::statement::Statement;
 use bean_base::{Fault, FaultKind, List};
@@ -80,15 +80,22 @@ impl<'a> Gathered<'a> {
         }
     }
 
-    /// Adds what a block gives.
-    fn add_block(&mut self, alloc: Global, block: &[Token<'a>]) -> Result<(), AllocError>
-        ensures { OnOk result ((o : Outcome) × Gives block.now o
-            × ((os : List Outcome) → IsGathered os self.old → IsGathered (os ++ o ∷ []) self.new)) }
+    /// Adds what the next block of a text gives, if there is one. `block` has room for its tokens.
+    fn add_next(
+        &mut self,
+        alloc: Global,
+        reader: &mut BlockReader<'a>,
+        block: &mut Vec<Token<'a>>,
+    ) -> Result<bool, AllocError>
     {
-        if self.directives.add_plain(alloc, block)? {
-            return Ok(());
+        match self.directives.add_plain(alloc, reader, block)? {
+            Next::Nothing => Ok(false),
+            Next::Added => Ok(true),
+            Next::Block => {
+                self.add_other(alloc, block)?;
+                Ok(true)
+            }
         }
-        self.add_other(alloc, block)
     }
 
     /// Adds what a block gives that isn't plain. In place, it would clear memory for each that is.
@@ -130,8 +137,6 @@ pub fn parse(alloc: Global, text: &str) -> Result<Parsed<'_>, AllocError>
     let mut gathered = Gathered::new(alloc);
     let mut block = Vec::new(alloc);
     let mut reader = BlockReader::new(text);
-    while reader.next_block(&mut block)? {
-        gathered.add_block(alloc, &block)?;
-    }
+    while gathered.add_next(alloc, &mut reader, &mut block)? {}
     gathered.parsed(alloc)
 }

@@ -1,11 +1,17 @@
 //! The blocks of a text, one after the other.
 ghost use Rattle.std.specs.Prelude.{◌≡◌, ◌++◌, ◌∷◌, [], List, ◌<◌, length, IfOk, OnOk, IfSome, IsTrue};
+ghost use Rattle.std.specs.Prelude.{None};
 ghost use Rattle.bean_lexer.specs.declared.token.Token.{Token};
 ghost use Rattle.bean_lexer.specs.Tokens.{AreTokens};
-ghost use Rattle.bean_parser.specs.BlockReader.{ToRead, left_of, TakesBlock, TakesOthers};
+ghost use Rattle.bean_directives.specs.declared.directive.Directive.{Directive};
+ghost use Rattle.bean_postings.specs.declared.posting.Posting.{Posting};
+ghost use Rattle.bean_parser.specs.BlockReader.{ToRead, left_of, Takes, TakesInside, TakesOthers};
 
 use crate::part::Part;
+use crate::plain::{head_of, take_postings};
+use bean_directives::Directive;
 use bean_lexer::{Lexer, Token};
+use bean_postings::WrittenPosting;
 use std::alloc::AllocError;
 
 /// Takes the blocks of a text off its tokens, one after the other.
@@ -14,6 +20,17 @@ pub struct BlockReader<'a> {
     pub lexer: Lexer<'a>,
     /// The first token of the next block.
     pub first: Option<Token<'a>>,
+}
+
+/// What was taken of a text.
+#[derive(Drop)]
+pub enum Taken<'a> {
+    /// Nothing: no block is left.
+    Nothing,
+    /// A plain transaction, which is to be given its postings.
+    Transaction(Directive<'a>),
+    /// The tokens of a block.
+    Block,
 }
 
 impl<'a> BlockReader<'a> {
@@ -42,6 +59,45 @@ impl<'a> BlockReader<'a> {
         self.lexer = lexer;
         Ok(true)
     }
+
+    /// Takes the next block, if there is one. Of a transaction with a plain first line and nothing but
+    /// plain postings under it the postings are added to others as they are read. Nearly all blocks are
+    /// such, and no token of their postings is kept. `block` comes to hold the tokens of any other, in
+    /// place of what it held.
+    #[inline(always)]
+    pub fn take_next(
+        &mut self,
+        block: &mut Vec<Token<'a>>,
+        postings: &mut Vec<WrittenPosting<'a>>,
+    ) -> Result<Taken<'a>, AllocError>
+        ensures block { (ps : List Posting) × (postings.new.items ≡ postings.old.items ++ ps)
+            × IfOk result (λ taken. Takes taken ps self.old block.new.items self.new) }
+        ensures shorter { IfOk result (λ taken. is_some taken ≡ true → left_of self.new < left_of self.old) }
+    {
+        block.clear();
+        let Some(first) = self.first.take() else {
+            return Ok(Taken::Nothing);
+        };
+        block.push(first)?;
+        // What a lexer keeps lies in registers while it goes on from token to token.
+        let mut lexer = self.lexer;
+        take_line(&mut lexer, block)?;
+        if let Some(directive) = head_of(block)? {
+            let mut under = lexer;
+            let before = postings.len();
+            if let Some(end) = take_postings(&mut under, postings)? {
+                *self = BlockReader {
+                    lexer: under,
+                    first: end.next,
+                };
+                return Ok(Taken::Transaction(directive));
+            }
+            postings.truncate(before);
+        }
+        self.first = take_others(&mut lexer, block)?;
+        self.lexer = lexer;
+        Ok(Taken::Block)
+    }
 }
 
 /// Adds a token. Mostly there is room, since a block comes where others were.
@@ -54,6 +110,16 @@ fn add_token<'a>(block: &mut Vec<Token<'a>>, token: Token<'a>) -> Result<(), All
         return Ok(());
     }
     block.push(token)?;
+    Ok(())
+}
+
+/// Adds the tokens of a lexer that stand in the same line, as far as spaces alone stand between them.
+fn take_line<'a>(lexer: &mut Lexer<'a>, block: &mut Vec<Token<'a>>) -> Result<(), AllocError>
+    ensures { OnOk result (TakesInside lexer.old block.old.items lexer.new block.new.items) }
+{
+    while let Some(token) = lexer.next_inside() {
+        add_token(block, token)?;
+    }
     Ok(())
 }
 
