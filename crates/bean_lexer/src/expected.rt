@@ -1,15 +1,29 @@
 //! Tokens of a kind that is expected at the front of a text, as nearly all postings have them. What else
 //! stands there isn't looked at.
-ghost use Rattle.std.specs.Prelude.{◌≡◌, IfSome};
+ghost use Rattle.std.specs.Prelude.{◌≡◌, ◌<◌, IfSome, length};
 ghost use Rattle.bean_lexer.specs.Found.{IsCounted};
 ghost use Rattle.bean_lexer.specs.declared.kind.Kind.TheVariants as kinds;
 ghost use Rattle.bean_lexer.specs.declared.kind.Sign.TheVariants as signs;
 
-use crate::digits::day_or_number;
+use crate::digits::{day_at, day_or_number};
 use crate::found::{Counted, on_one_line};
 use crate::kind::Kind;
 use crate::names::{account_at, currency_at};
 use crate::words::minus_at;
+
+/// What has the form of a day at the front.
+#[inline(always)]
+pub fn expected_day(bytes: &[u8]) -> Option<Counted>
+    ensures found { IfSome result (IsCounted bytes.now) }
+    ensures kind { IfSome result (λ found. found.kind ≡ kinds.Day) }
+    ensures some { IfSome result (λ _. 0 < length bytes.now) }
+{
+    if bytes.is_empty() || !bytes[0].is_ascii_digit() {
+        return None;
+    }
+    let found = day_at(bytes)?;
+    Some(on_one_line(bytes, found))
+}
 
 /// The account at the front.
 #[inline(always)]

@@ -5,9 +5,12 @@ ghost use Rattle.bean_lexer.specs.Gap.{spot_at};
 ghost use Rattle.bean_lexer.specs.InGap.{IsLead};
 ghost use Rattle.bean_lexer.specs.Tokens.{line_at};
 
-use crate::expected::{expected_account, expected_currency, expected_minus, expected_number};
+use crate::expected::{
+    expected_account, expected_currency, expected_day, expected_minus, expected_number,
+};
 use crate::found::Counted;
 use crate::gaps::{Lead, Spot, gap_at, indent_at, spaces_at};
+use crate::kind::Place;
 use crate::token::Token;
 use crate::token_at::token_at;
 use bean_base::Slice;
@@ -38,7 +41,7 @@ fn behind<'a>(place: usize, rest: &'a str, gap: Lead) -> &'a str
 }
 
 impl<'a> Lexer<'a> {
-    ghost use Rattle.std.specs.Prelude.{List, [], ◌∷◌, MatchOption};
+    ghost use Rattle.std.specs.Prelude.{List, [], ◌∷◌, MatchOption, IsTrue, false};
     ghost use Rattle.std.specs.Option.{IfSome};
     ghost use Rattle.bean_lexer.specs.declared.token.Token.{Token};
     ghost use Rattle.bean_lexer.specs.declared.kind.Kind.TheVariants as kinds;
@@ -46,7 +49,7 @@ impl<'a> Lexer<'a> {
     ghost use Rattle.bean_lexer.specs.declared.kind.Place.TheVariants as places;
     ghost use Rattle.bean_lexer.specs.Found.{IsCounted};
     ghost use Rattle.bean_lexer.specs.Tokens.{AreTokens};
-    ghost use Rattle.bean_lexer.specs.ToCome.{ToCome};
+    ghost use Rattle.bean_lexer.specs.ToCome.{ToCome, EndsLines, is_column_one};
 
     /// All the tokens of a text are still to come.
     pub fn new(text: &'a str) -> Lexer<'a>
@@ -103,12 +106,64 @@ impl<'a> Lexer<'a> {
             (λ t. (ts : List Token) → ToCome self.new ts → ToCome self.old (t ∷ ts)) }
         ensures shorter { IfSome result (λ _. length self.new.rest.now < length self.old.rest.now) }
     {
-        let gap = gap_at(Spot::at(self.place()), self.rest.as_bytes());
+        let gap = self.gap();
         let behind = behind(self.place(), self.rest, gap);
         if behind.is_empty() {
             return None;
         }
         let found = token_at(behind.as_bytes());
+        Some(self.take(gap, behind, found))
+    }
+
+    /// The gap before the next token.
+    #[inline(always)]
+    fn gap(&self) -> Lead
+        ensures { IsLead (spot_at (length self.now.text.now - length self.now.rest.now))
+            self.now.rest.now result }
+    {
+        gap_at(Spot::at(self.place()), self.rest.as_bytes())
+    }
+
+    /// The next token, or none where there are no more or the next one stands in the first column.
+    #[inline(always)]
+    pub fn next_past_column_one(&mut self) -> Option<Token<'a>>
+        ensures tokens { MatchOption result (EndsLines self.old × (self.new ≡ self.old))
+            (λ t. (ts : List Token) → ToCome self.new ts → ToCome self.old (t ∷ ts)) }
+        ensures place { IfSome result (λ t. is_column_one t.place ≡ false) }
+        ensures shorter { IfSome result (λ _. length self.new.rest.now < length self.old.rest.now) }
+    {
+        let gap = self.gap();
+        if gap.place == Place::ColumnOne {
+            return None;
+        }
+        let behind = behind(self.place(), self.rest, gap);
+        if behind.is_empty() {
+            return None;
+        }
+        let found = token_at(behind.as_bytes());
+        Some(self.take(gap, behind, found))
+    }
+
+    /// Whether the next token stands in the first column, or there are no more.
+    #[inline(always)]
+    pub fn is_before_column_one(&self) -> bool
+        ensures { IsTrue result → EndsLines self.now }
+    {
+        let gap = self.gap();
+        gap.place == Place::ColumnOne || gap.len == self.rest.len()
+    }
+
+    /// The next token, if it is of the form of a day.
+    #[inline(always)]
+    pub fn next_day(&mut self) -> Option<Token<'a>>
+        ensures tokens { MatchOption result (self.new ≡ self.old)
+            (λ t. (ts : List Token) → ToCome self.new ts → ToCome self.old (t ∷ ts)) }
+        ensures kind { IfSome result (λ t. t.kind ≡ kinds.Day) }
+        ensures shorter { IfSome result (λ _. length self.new.rest.now < length self.old.rest.now) }
+    {
+        let gap = self.gap();
+        let behind = behind(self.place(), self.rest, gap);
+        let found = expected_day(behind.as_bytes())?;
         Some(self.take(gap, behind, found))
     }
 

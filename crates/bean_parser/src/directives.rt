@@ -1,12 +1,13 @@
 //! The directives of a text while they are gathered: the postings of many lie in one block of memory.
-ghost use Rattle.std.specs.Prelude.{◌≡◌, ◌≤◌, ◌++◌, ◌∷◌, [], IfOk, OnErr, OnOk, length, map};
+ghost use Rattle.std.specs.Prelude.{◌≡◌, ◌<◌, ◌≤◌, ◌++◌, ◌∷◌, [], IfOk, OnErr, OnOk, length, map, true};
 ghost use Rattle.std.specs.List.{AllByRecursion};
 ghost use Rattle.bean_directives.specs.Given.{with_postings};
-ghost use Rattle.bean_parser.specs.Waiting.{AddsPlain, IsWithin, completed};
+ghost use Rattle.bean_parser.specs.Taken.{AddsPlain, found};
+ghost use Rattle.bean_parser.specs.Waiting.{IsWithin, completed};
 
-use crate::reader::{BlockReader, Taken};
+use crate::reader::{Taken, take_next};
 use bean_directives::{ApartDirective, Directive, Stretch};
-use bean_lexer::Token;
+use bean_lexer::{Lexer, Token};
 use bean_postings::WrittenPosting;
 use std::alloc::{AllocError, Global};
 use std::marker::Model;
@@ -191,20 +192,21 @@ impl<'a> Directives<'a> {
         self.settle_if_full(alloc)
     }
 
-    /// Takes the next block off a reader, and adds the transaction that it is, if it is a plain one. Each of
+    /// Takes the next block off a lexer, and adds the transaction that it is, if it is a plain one. Each of
     /// its postings is moved but once, to where it stays. `block` comes to hold the tokens of any other.
     #[inline(always)]
     pub fn add_plain(
         &mut self,
         alloc: Global,
-        reader: &mut BlockReader<'a>,
+        lexer: &mut Lexer<'a>,
         block: &mut Vec<Token<'a>>,
     ) -> Result<Next, AllocError>
-        ensures { IfOk result (λ next. AddsNext next reader.old block.new.items reader.new self.old self.new) }
-        
+        ensures added { IfOk result (λ next. AddsPlain next lexer.old block.new.items lexer.new self.old self.new) }
+        ensures shorter { IfOk result
+            (λ next. found next ≡ true → length lexer.new.rest.now < length lexer.old.rest.now) }
     {
         let first = self.postings.len();
-        match reader.take_next(block, &mut self.postings)? {
+        match take_next(lexer, block, &mut self.postings)? {
             Taken::Transaction(directive) => {
                 let end = self.postings.len();
                 let directive = ApartDirective::new(alloc, directive)?;

@@ -1,18 +1,17 @@
 //! What a ledger's text says: its directives, its settings and its faults.
-ghost use Rattle.std.specs.Prelude.{◌≡◌, ◌++◌, ◌∷◌, [], List, IfOk, OnOk};
+ghost use Rattle.std.specs.Prelude.{◌≡◌, ◌<◌, ◌++◌, ◌∷◌, [], List, IfOk, OnOk, IsTrue, length};
 ghost use Rattle.bean_parser.specs.Parsed.{IsParsed, ComeTo, AreByLine};
-ghost use Rattle.bean_parser.specs.Gathered.{IsGathered, undated_at};
+ghost use Rattle.bean_parser.specs.Gathered.{AddsNext, IsGathered, undated_at};
 ghost use Rattle.bean_parser.specs.declared.block.Outcome.{Outcome};
 ghost use Rattle.bean_parser.specs.declared.block.Outcome.TheVariants as outcome;
 ghost use Rattle.bean_parser.specs.Outcome.{Gives};
 
 use crate::block::{Outcome, fault_at, read_block};
 use crate::directives::{Directives, Next};
-use crate::reader::BlockReader;
 use crate::statement::Statement;
 use bean_base::{Fault, FaultKind, List};
 use bean_directives::{ApartDirective, Setting, UndatedKind};
-use bean_lexer::Token;
+use bean_lexer::{Lexer, Token};
 use bean_pushes::{PlacedBound, add_unmatched, give_all, reaches};
 use std::alloc::{AllocError, Global};
 
@@ -84,11 +83,14 @@ impl<'a> Gathered<'a> {
     fn add_next(
         &mut self,
         alloc: Global,
-        reader: &mut BlockReader<'a>,
+        lexer: &mut Lexer<'a>,
         block: &mut Vec<Token<'a>>,
     ) -> Result<bool, AllocError>
+        ensures added { IfOk result (λ some. AddsNext some lexer.old self.old lexer.new self.new) }
+        ensures shorter { IfOk result (λ some. IsTrue some
+            → length lexer.new.rest.now < length lexer.old.rest.now) }
     {
-        match self.directives.add_plain(alloc, reader, block)? {
+        match self.directives.add_plain(alloc, lexer, block)? {
             Next::Nothing => Ok(false),
             Next::Added => Ok(true),
             Next::Block => {
@@ -136,7 +138,7 @@ pub fn parse(alloc: Global, text: &str) -> Result<Parsed<'_>, AllocError>
 {
     let mut gathered = Gathered::new(alloc);
     let mut block = Vec::new(alloc);
-    let mut reader = BlockReader::new(text);
-    while gathered.add_next(alloc, &mut reader, &mut block)? {}
+    let mut lexer = Lexer::new(text);
+    while gathered.add_next(alloc, &mut lexer, &mut block)? {}
     gathered.parsed(alloc)
 }

@@ -1,13 +1,13 @@
 //! Plain transactions: a day, a sign and at most two texts, and under them lines that are an account, with a
 //! number and a currency or without. Nearly all blocks are such. Their postings are read as the lexer
 //! finds their tokens, which are kept nowhere.
-ghost use Rattle.std.specs.Prelude.{◌≡◌, ◌++◌, IfOk, IfSome};
-ghost use Rattle.bean_directives.specs.declared.directive.Directive as directives;
-ghost use Rattle.bean_postings.specs.declared.posting.Posting as postings_of;
+ghost use Rattle.std.specs.Prelude.{◌≡◌, ◌<◌, ◌≤◌, ◌++◌, [], List, IfOk, IfSome, IsTrue, MatchOption, length};
+ghost use Rattle.bean_lexer.specs.declared.kind.Kind.TheVariants as kinds;
+ghost use Rattle.bean_postings.specs.declared.posting.Posting.{Posting};
 ghost use Rattle.bean_parser.specs.Plain.{IsPlainHead, IsPostingBehind, TakesPostings};
 
 use crate::block::{fault_line, is_in_column_one, kept_line};
-use crate::part::{Part, first_line};
+use crate::part::first_line;
 use bean_base::Few;
 use bean_directives::head::plain_head;
 use bean_directives::{Directive, DirectiveKind};
@@ -15,12 +15,6 @@ use bean_lexer::{Lexer, Token};
 use bean_postings::WrittenPosting;
 use bean_postings::posting_line::plain_posting;
 use std::alloc::AllocError;
-
-/// Where plain postings end: at the first token of the next block, or with the text.
-#[derive(Drop)]
-pub struct End<'a> {
-    pub next: Option<Token<'a>>,
-}
 
 /// The directive that begins with a line, if that is the first line of a plain transaction. It has no
 /// postings.
@@ -31,7 +25,7 @@ pub fn head_of<'a>(line: &[Token<'a>]) -> Result<Option<Directive<'a>>, AllocErr
     if !is_in_column_one(line) {
         return Ok(None);
     }
-    if fault_line(line).is_some() {
+    if let Some(_) = fault_line(line) {
         return Ok(None);
     }
     // What can fail comes first, so that a transaction that was read is given up nowhere.
@@ -51,7 +45,9 @@ pub fn head_of<'a>(line: &[Token<'a>]) -> Result<Option<Directive<'a>>, AllocErr
 /// without.
 #[inline(always)]
 fn posting_behind<'a>(account: Token<'a>, lexer: &mut Lexer<'a>) -> Option<WrittenPosting<'a>>
-    ensures { IfSome result (IsPostingBehind account.entry lexer.old lexer.new) }
+    requires kind { account.kind ≡ kinds.Account }
+    ensures posting { IfSome result (IsPostingBehind account.entry lexer.old lexer.new) }
+    ensures shorter { IfSome result (λ _. length lexer.new.rest.now ≤ length lexer.old.rest.now) }
 {
     let line = account.line;
     if let Some(minus) = lexer.next_minus() {
@@ -68,34 +64,48 @@ fn posting_behind<'a>(account: Token<'a>, lexer: &mut Lexer<'a>) -> Option<Writt
     }
 }
 
-/// The token behind plain postings. It stays a call of its own, since what is read of tokens of all kinds
-/// would crowd out what is read of postings.
+/// Adds the postings that the next lines are, up to the next block, if each of them is plain, which it tells.
+/// It stays a call of its own, so that what a lexer keeps lies in registers.
 #[inline(never)]
-fn next_behind<'a>(lexer: &mut Lexer<'a>) -> Option<Token<'a>>
-    ensures { result ≡ result }
-{
-    lexer.next_token()
-}
-
-/// Adds the postings that the next lines are, up to the next block, if each of them is plain.
-pub fn take_postings<'a>(
+fn take_postings<'a>(
     lexer: &mut Lexer<'a>,
     postings: &mut Vec<WrittenPosting<'a>>,
-) -> Result<Option<End<'a>>, AllocError>
+) -> Result<bool, AllocError>
     ensures { (ps : List Posting) × (postings.new.items ≡ postings.old.items ++ ps)
-        × IfOk result (λ found. IfSome found (λ end. TakesPostings lexer.old end.next lexer.new ps)) }
+        × IfOk result (λ plain. IsTrue plain → TakesPostings lexer.old lexer.new ps) }
 {
     let mut at = *lexer;
     while let Some(account) = at.next_account() {
         let Some(posting) = posting_behind(account, &mut at) else {
-            return Ok(None);
+            return Ok(false);
         };
         postings.push(posting)?;
     }
     *lexer = at;
-    let next = next_behind(lexer);
-    match &next {
-        Some(token) if !Part::Block.begins_at(token.place) => Ok(None),
-        _ => Ok(Some(End { next })),
+    Ok(at.is_before_column_one())
+}
+
+/// Takes the lines under a line, if that is the first of a plain transaction and each of them is a plain
+/// posting, which is added to others. Else nothing is taken.
+#[inline(always)]
+pub fn take_transaction<'a>(
+    lexer: &mut Lexer<'a>,
+    line: &[Token<'a>],
+    postings: &mut Vec<WrittenPosting<'a>>,
+) -> Result<Option<Directive<'a>>, AllocError>
+    ensures { (ps : List Posting) × (postings.new.items ≡ postings.old.items ++ ps)
+        × IfOk result (λ found. MatchOption found ((ps ≡ []) × (lexer.new ≡ lexer.old))
+        (λ d. IsPlainHead line.now d × TakesPostings lexer.old lexer.new ps)) }
+{
+    let Some(directive) = head_of(line)? else {
+        return Ok(None);
+    };
+    let before = postings.len();
+    let mut under = *lexer;
+    if !take_postings(&mut under, postings)? {
+        postings.truncate(before);
+        return Ok(None);
     }
+    *lexer = under;
+    Ok(Some(directive))
 }

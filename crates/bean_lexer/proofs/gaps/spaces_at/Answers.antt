@@ -1,5 +1,4 @@
 use Rattle.std.proofs.Common.{◌≡◌, get_or, refl, sym, ◌∙◌, subst, arith}
-
 use Rattle.std.specs.List.{prefix_len}
 use Rattle.bean_lexer.specs.Gap.{is_space}
 use Rattle.bean_lexer.specs.InGap.{IsLead}
