@@ -5,6 +5,5 @@ pub mod InGap
 pub mod Between
 pub mod Lookahead
 pub mod Tokens
-pub mod Found
 pub mod OneListOfTokens
 pub mod ToCome

@@ -1,6 +1,6 @@
 //! Days and numbers.
 ghost use Rattle.std.specs.Prelude.{◌≡◌, ◌<◌, ◌≤◌, ◌&&◌, ◌==◌, nat_lt, nat_le, length, slice_index};
-ghost use Rattle.std.specs.Prelude.{IsTrue, take, IfSome};
+ghost use Rattle.std.specs.Prelude.{IsTrue, take};
 ghost use Rattle.std.specs.Char.{is_ascii_digit};
 ghost use Rattle.std.specs.Str.{IsUtf8, IsCharBoundary};
 ghost use Rattle.bean_base.specs.Numeral.{is_number};
@@ -8,7 +8,6 @@ ghost use Rattle.bean_base.specs.Day.{is_day_form};
 ghost use Rattle.theory.specs.LongestFront.{IsLongestFront};
 ghost use Rattle.bean_lexer.specs.Lookahead as spec;
 ghost use Rattle.bean_lexer.specs.Tokens.{IsToken};
-ghost use Rattle.bean_lexer.specs.declared.kind.Kind.TheVariants as kinds;
 
 use crate::found::Found;
 use crate::kind::Kind;
@@ -34,25 +33,6 @@ pub fn day_or_number(bytes: &[u8]) -> Found
             len: number_len(bytes),
         }
     }
-}
-
-/// What has the form of a day at the front.
-#[inline(always)]
-pub fn day_at(bytes: &[u8]) -> Option<Found>
-    requires some { 0 < length bytes.now }
-    requires digit { IsTrue (is_ascii_digit (slice_index bytes.now 0)) }
-    ensures token { IfSome result (λ found. IsToken bytes.now found.kind found.len) }
-    ensures kind { IfSome result (λ found. found.kind ≡ kinds.Day) }
-    ensures boundary { IfSome result
-        (λ found. IsUtf8 bytes.now → IsCharBoundary bytes.now found.len) }
-{
-    if !begins_with_day(bytes) {
-        return None;
-    }
-    Some(Found {
-        kind: Kind::Day,
-        len: 10,
-    })
 }
 
 #[inline(always)]

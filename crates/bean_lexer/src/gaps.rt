@@ -1,6 +1,6 @@
 //! What stands between tokens: white space, line feeds, comments and skipped lines.
-ghost use Rattle.std.specs.Prelude.{◌≡◌, ◌<◌, length, IsTrue, None, IfSome};
-ghost use Rattle.bean_lexer.specs.Gap.{gap_step, place_of};
+ghost use Rattle.std.specs.Prelude.{◌≡◌, ◌≤◌, length, take, count_by, IsTrue, None};
+ghost use Rattle.bean_lexer.specs.Gap.{is_line_feed, gap_len, behind_gap, gap_step, place_of};
 ghost use Rattle.bean_lexer.specs.Gap as spec;
 ghost use Rattle.bean_lexer.specs.Gap.{spot_at};
 ghost use Rattle.bean_lexer.specs.InGap.{IsLead};
@@ -174,42 +174,10 @@ fn found_gap(start: Spot, bytes: &[u8]) -> Lead
 /// The gap at the front of a text.
 #[inline(always)]
 pub fn gap_at(start: Spot, bytes: &[u8]) -> Lead
-    ensures { IsLead start bytes.now result }
+    ensures len { result.len ≡ gap_len start bytes.now }
+    ensures place { result.place ≡ place_of (behind_gap start bytes.now) }
+    ensures inside { result.len ≤ length bytes.now }
+    ensures line_feeds { result.line_feeds ≡ count_by is_line_feed (take result.len bytes.now) }
 {
     found_gap(start, bytes)
-}
-
-/// The gap behind a token, if it is spaces, or nothing, up to a token of the same line.
-#[inline(always)]
-pub fn spaces_at(bytes: &[u8]) -> Option<Lead>
-    ensures gap { IfSome result (IsLead spot.Behind bytes.now) }
-    ensures place { IfSome result (λ lead. lead.place ≡ place.Inside) }
-    ensures some { IfSome result (λ lead. lead.len < length bytes.now) }
-{
-    let len = end_of_run::<Space>(bytes, 0);
-    if len == bytes.len() || !begins_token(bytes[len]) {
-        return None;
-    }
-    Some(inside(len))
-}
-
-/// The gap behind a token, if it is a line feed and spaces up to a token: that begins an indented line.
-#[inline(always)]
-pub fn indent_at(bytes: &[u8]) -> Option<Lead>
-    ensures gap { IfSome result (IsLead spot.Behind bytes.now) }
-    ensures place { IfSome result (λ lead. lead.place ≡ place.Indented) }
-    ensures some { IfSome result (λ lead. lead.len < length bytes.now) }
-{
-    if bytes.len() < 2 || bytes[0] != b'\n' || bytes[1] != b' ' {
-        return None;
-    }
-    let len = end_of_run::<Space>(bytes, 1);
-    if len == bytes.len() || !begins_token(bytes[len]) {
-        return None;
-    }
-    Some(Lead {
-        len,
-        line_feeds: 1,
-        place: Place::Indented,
-    })
 }

@@ -22,7 +22,7 @@ use byte_runs::{end_of_run, has_front};
 /// Three capitals stand at the front, and white space or a line feed behind them: so is most money
 /// named.
 #[inline(always)]
-fn is_code(bytes: &[u8]) -> bool
+pub fn is_code(bytes: &[u8]) -> bool
     ensures { result ≡ lookahead.is_code bytes.now }
 {
     bytes.len() > 3
@@ -68,42 +68,6 @@ pub fn account_at(bytes: &[u8]) -> Option<Found>
         kind: Kind::Account,
         len,
     })
-}
-
-/// The currency at the front, if one stands there. Most are told by their first four bytes.
-#[inline(always)]
-pub fn currency_at(bytes: &[u8]) -> Option<Found>
-    requires some { 0 < length bytes.now }
-    requires capital { IsTrue (is_ascii_uppercase (slice_index bytes.now 0)) }
-    ensures token { IfSome result (λ found. IsToken bytes.now found.kind found.len) }
-    ensures kind { IfSome result (λ found. found.kind ≡ kinds.Currency) }
-    ensures boundary { IfSome result
-        (λ found. IsUtf8 bytes.now → IsCharBoundary bytes.now found.len) }
-{
-    if is_code(bytes) {
-        return Some(Found {
-            kind: Kind::Currency,
-            len: 3,
-        });
-    }
-    other_currency(bytes)
-}
-
-/// The same of a currency that isn't told so.
-#[inline(never)]
-fn other_currency(bytes: &[u8]) -> Option<Found>
-    requires some { 0 < length bytes.now }
-    requires capital { IsTrue (is_ascii_uppercase (slice_index bytes.now 0)) }
-    ensures token { IfSome result (λ found. IsToken bytes.now found.kind found.len) }
-    ensures kind { IfSome result (λ found. found.kind ≡ kinds.Currency) }
-    ensures boundary { IfSome result
-        (λ found. IsUtf8 bytes.now → IsCharBoundary bytes.now found.len) }
-{
-    let found = account_or_currency(bytes);
-    match found.kind {
-        Kind::Currency => Some(found),
-        _ => None,
-    }
 }
 
 /// The length of a root and its colon at the front, or 0. Most accounts are of expenses.

@@ -5,13 +5,11 @@ ghost use Rattle.std.specs.List.{prefix_len};
 ghost use Rattle.std.specs.Option.{IfSome};
 ghost use Rattle.std.specs.Char.{is_ascii_lowercase};
 ghost use Rattle.std.specs.Str.{IsUtf8, IsCharBoundary};
-ghost use Rattle.bean_base.specs.Character.{dash, is_ascii};
+ghost use Rattle.bean_base.specs.Character.{is_ascii};
 ghost use Rattle.bean_lexer.specs.TokenForm.{sign_spelling};
 ghost use Rattle.bean_lexer.specs.Lookahead.{begins_other};
 ghost use Rattle.bean_lexer.specs.Lookahead as spec;
 ghost use Rattle.bean_lexer.specs.Tokens.{IsToken, goes_on_character};
-ghost use Rattle.bean_lexer.specs.declared.kind.Kind.TheVariants as kinds;
-ghost use Rattle.bean_lexer.specs.declared.kind.Sign.TheVariants as signs;
 
 use crate::classes::{GoesOnCharacter, InKey};
 use crate::found::Found;
@@ -124,25 +122,6 @@ fn character_len(bytes: &[u8]) -> usize
     }
 }
 
-/// The minus at the front.
-#[inline(always)]
-pub fn minus_at(bytes: &[u8]) -> Option<Found>
-    ensures first { IfSome result (λ _. (0 < length bytes.now) × (slice_index bytes.now 0 ≡ dash)) }
-    ensures len { IfSome result (λ found. found.len ≡ 1) }
-    ensures token { IfSome result (λ found. IsToken bytes.now found.kind found.len) }
-    ensures kind { IfSome result (λ found. found.kind ≡ kinds.Sign signs.Minus) }
-    ensures boundary { IfSome result
-        (λ found. IsUtf8 bytes.now → IsCharBoundary bytes.now found.len) }
-{
-    if bytes.is_empty() || bytes[0] != b'-' {
-        return None;
-    }
-    Some(Found {
-        kind: Kind::Sign(Sign::Minus),
-        len: 1,
-    })
-}
-
 /// The sign that begins with any other byte, or a fault of one character.
 #[inline(always)]
 pub fn sign_or_fault(bytes: &[u8]) -> Found
@@ -153,8 +132,11 @@ pub fn sign_or_fault(bytes: &[u8]) -> Found
     ensures boundary { IsUtf8 bytes.now → IsCharBoundary bytes.now result.len }
 {
     // Most are of one sign, which is never doubled.
-    if let Some(minus) = minus_at(bytes) {
-        return minus;
+    if bytes[0] == b'-' {
+        return Found {
+            kind: Kind::Sign(Sign::Minus),
+            len: 1,
+        };
     }
     if bytes[0] == b'*' {
         return Found {

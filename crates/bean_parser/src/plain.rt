@@ -14,6 +14,7 @@ use bean_directives::{Directive, DirectiveKind};
 use bean_lexer::{Lexer, Token};
 use bean_postings::WrittenPosting;
 use bean_postings::posting_line::plain_posting;
+use expected_tokens::{is_before_column_one, next_account, next_currency, next_minus, next_number};
 use std::alloc::AllocError;
 
 /// The directive that begins with a line, if that is the first line of a plain transaction. It has no
@@ -28,7 +29,7 @@ pub fn head_of<'a>(line: &[Token<'a>]) -> Result<Option<Directive<'a>>, AllocErr
     if let Some(_) = fault_line(line) {
         return Ok(None);
     }
-    // What can fail comes first, so that a transaction that was read is given up nowhere.
+    // What can fail comes first, so that no transaction that was read is given up for want of memory.
     let number = kept_line(first_line(line))?;
     match plain_head(line) {
         Some((day, transaction)) => Ok(Some(Directive {
@@ -50,22 +51,22 @@ fn posting_behind<'a>(account: Token<'a>, lexer: &mut Lexer<'a>) -> Option<Writt
     ensures shorter { IfSome result (λ _. length lexer.new.rest.now ≤ length lexer.old.rest.now) }
 {
     let line = account.line;
-    if let Some(minus) = lexer.next_minus() {
-        let number = lexer.next_number()?;
-        let currency = lexer.next_currency()?;
+    if let Some(minus) = next_minus(lexer) {
+        let number = next_number(lexer)?;
+        let currency = next_currency(lexer)?;
         return plain_posting(line, &[account, minus, number, currency]);
     }
-    match lexer.next_number() {
+    match next_number(lexer) {
         Some(number) => {
-            let currency = lexer.next_currency()?;
+            let currency = next_currency(lexer)?;
             plain_posting(line, &[account, number, currency])
         }
         None => plain_posting(line, &[account]),
     }
 }
 
-/// Adds the postings that the next lines are, up to the next block, if each of them is plain, which it tells.
-/// It stays a call of its own, so that what a lexer keeps lies in registers.
+/// Adds the postings that the next lines are, up to the next block, if each of them is plain, which it
+/// tells. It stays a call of its own, so that what a lexer keeps lies in registers.
 #[inline(never)]
 fn take_postings<'a>(
     lexer: &mut Lexer<'a>,
@@ -75,14 +76,14 @@ fn take_postings<'a>(
         × IfOk result (λ plain. IsTrue plain → TakesPostings lexer.old lexer.new ps) }
 {
     let mut at = *lexer;
-    while let Some(account) = at.next_account() {
+    while let Some(account) = next_account(&mut at) {
         let Some(posting) = posting_behind(account, &mut at) else {
             return Ok(false);
         };
         postings.push(posting)?;
     }
     *lexer = at;
-    Ok(at.is_before_column_one())
+    Ok(is_before_column_one(&at))
 }
 
 /// Takes the lines under a line, if that is the first of a plain transaction and each of them is a plain

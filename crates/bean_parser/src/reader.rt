@@ -11,6 +11,7 @@ use crate::plain::take_transaction;
 use bean_directives::Directive;
 use bean_lexer::{Lexer, Token};
 use bean_postings::WrittenPosting;
+use expected_tokens::{next_day, next_inside, next_past_column_one};
 use std::alloc::AllocError;
 
 /// What was taken of a text.
@@ -92,7 +93,7 @@ fn first_token<'a>(lexer: &mut Lexer<'a>) -> Option<Token<'a>>
         (λ t. (ts : List Token) → ToCome lexer.new ts → ToCome lexer.old (t ∷ ts)) }
     ensures shorter { IfSome result (λ _. length lexer.new.rest.now < length lexer.old.rest.now) }
 {
-    match lexer.next_day() {
+    match next_day(lexer) {
         Some(day) => Some(day),
         None => any_token(lexer),
     }
@@ -120,7 +121,7 @@ fn take_inside<'a>(lexer: &mut Lexer<'a>, block: &mut Vec<Token<'a>>) -> Result<
 {
     // What a lexer keeps lies in registers while it goes on from token to token.
     let mut at = *lexer;
-    while let Some(token) = at.next_inside() {
+    while let Some(token) = next_inside(&mut at) {
         add_token(block, token)?;
     }
     *lexer = at;
@@ -133,7 +134,7 @@ fn take_others<'a>(lexer: &mut Lexer<'a>, block: &mut Vec<Token<'a>>) -> Result<
     ensures { OnOk result (TakesOthers lexer.old block.old.items lexer.new block.new.items) }
 {
     let mut at = *lexer;
-    while let Some(token) = at.next_past_column_one() {
+    while let Some(token) = next_past_column_one(&mut at) {
         add_token(block, token)?;
     }
     *lexer = at;

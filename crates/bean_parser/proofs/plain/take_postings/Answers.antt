@@ -14,7 +14,7 @@ loop-account-preserved c =
       before.0 ++ posting.posting ∷ [],
       c.in_ok-push.ensures.items ∙ ap (λ l. l ++ posting.posting ∷ []) before.1
           ∙ append_assoc _ before.0 (posting.posting ∷ []),
-      one_read c.args.lexer.now c.loop-account.at c.next_account.new.self
+      one_read c.args.lexer.now c.loop-account.at c.next_account.new.lexer
           c.posting_behind.new.lexer before.0 account.account posting.posting before.2
           account.ensures.tokens account.ensures.place account.ensures.shorter
           posting.ensures.posting posting.ensures.shorter,

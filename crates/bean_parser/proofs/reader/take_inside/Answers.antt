@@ -6,6 +6,6 @@ loop-token-init c = inside_begins c.args.lexer.now c.args.block.now.items
 
 pub loop-token-preserved : goal.loop-token-preserved
 loop-token-preserved c =
-    inside_more _ _ c.loop-token.at c.next_inside.new.self c.loop-token.block.items
+    inside_more _ _ c.loop-token.at c.next_inside.new.lexer c.loop-token.block.items
     c.add_token.new.block.items c.in-Some.token c.loop-token.invariant c.in-Some.ensures.tokens
     c.in-Some.ensures.place c.in-Some.ensures.shorter c.in_ok-add_token.ensures

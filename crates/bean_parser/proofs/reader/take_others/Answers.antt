@@ -6,7 +6,7 @@ loop-token-init c = taking_starts c.args.lexer.now c.args.block.now.items
 
 pub loop-token-preserved : goal.loop-token-preserved
 loop-token-preserved c =
-    taking_more _ _ c.loop-token.at c.next_past_column_one.new.self c.loop-token.block.items
+    taking_more _ _ c.loop-token.at c.next_past_column_one.new.lexer c.loop-token.block.items
     c.add_token.new.block.items c.in-Some.token c.loop-token.invariant c.in-Some.ensures.tokens
     c.in-Some.ensures.place c.in-Some.ensures.shorter c.in_ok-add_token.ensures
 

@@ -2,11 +2,11 @@ use Rattle.std.proofs.Common.{arith, sym, ap, ◌∙◌, refl}
 use Rattle.std.specs.List.{count_by}
 use Rattle.bean_lexer.specs.Gap.{is_line_feed}
 use Rattle.bean_lexer.proofs.TokensFacts.{IsAt, Parts, Feeds, is_behind, token_to_come}
-use Rattle.bean_lexer.proofs.lexer.Lexer.take.Goals as goal
+use Rattle.expected_tokens.proofs.taking.take.Goals as goal
 
-pub invariant_of-self : goal.invariant_of-self
-invariant_of-self c =
-    let lexer = c.args.self.now in
+pub invariant_of-lexer : goal.invariant_of-lexer
+invariant_of-lexer c =
+    let lexer = c.args.lexer.now in
     let gap = c.requires.gap in
     let inside = gap.inside in
     let token_inside = c.split_at.ensures.back_len in
@@ -34,7 +34,7 @@ invariant_of-self c =
 
 pub returns-clause-tokens : goal.returns-clause-tokens
 returns-clause-tokens c =
-    let lexer = c.args.self.now in
+    let lexer = c.args.lexer.now in
     let gap = c.requires.gap in
     let inside = gap.inside in
     let token_inside = c.split_at.ensures.back_len in

@@ -1,10 +1,9 @@
-use Rattle.std.proofs.Common.{◌≡◌, get_or, refl, sym, ◌∙◌, subst, arith}
+use Rattle.std.proofs.Common.{◌≡◌, get_or, refl, sym, ◌∙◌, arith}
 use Rattle.std.specs.List.{prefix_len}
 use Rattle.bean_lexer.specs.Gap.{is_space}
-use Rattle.bean_lexer.specs.InGap.{IsLead}
 use Rattle.bean_lexer.specs.declared.gaps.Spot.TheVariants as spot
 use Rattle.bean_lexer.proofs.GapFacts.{begins_at, whole_gap, spaces_front}
-use Rattle.bean_lexer.proofs.gaps.spaces_at.Goals as goal
+use Rattle.expected_tokens.proofs.spaces.spaces_at.Goals as goal
 
 pub returns-clause-gap : goal.returns-clause-gap
 returns-clause-gap c =
@@ -13,6 +12,6 @@ returns-clause-gap c =
     let is = c.end_of_run-len.ensures.run in
     let run : len ≡ prefix_len is_space bs = omega (arith, is) in
     let front = spaces_front bs len run in
-    subst (IsLead spot.Behind bs) (sym c.inside.ensures)
-    (whole_gap spot.Behind bs spot.Behind len 0 front (omega arith)
-    (begins_at spot.Behind (get_or bs len 0) (sym c.begins_token.ensures ∙ c.if-not-begins_token.false) refl refl))
+    whole_gap spot.Behind bs spot.Behind len 0 front (omega arith)
+    (begins_at spot.Behind (get_or bs len 0)
+    (sym c.begins_token.ensures ∙ c.if-not-begins_token.false) refl refl)

@@ -3,7 +3,7 @@ use Rattle.std.specs.Str.{IsCharBoundary}
 use Rattle.std.proofs.lemmas.Str.{IsCharBoundary-start}
 use Rattle.bean_lexer.specs.Gap.{gap_len, spot_at}
 use Rattle.bean_lexer.proofs.BoundaryFacts.{gap_boundary}
-use Rattle.bean_lexer.proofs.lexer.behind.Goals as goal
+use Rattle.expected_tokens.proofs.taking.behind.Goals as goal
 
 pub split_at-requires : goal.split_at-requires
 split_at-requires c =

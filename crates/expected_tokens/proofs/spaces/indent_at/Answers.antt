@@ -2,7 +2,7 @@ use Rattle.std.proofs.Common.{◌≡◌, get_or, drop, refl, sym, ◌∙◌, sub
 use Rattle.std.proofs.lemmas.List.{get_or-drop}
 use Rattle.bean_lexer.specs.declared.gaps.Spot.TheVariants as spot
 use Rattle.bean_lexer.proofs.GapFacts.{IsFront, begins_at, feed_front, over_spaces, whole_gap}
-use Rattle.bean_lexer.proofs.gaps.indent_at.Goals as goal
+use Rattle.expected_tokens.proofs.spaces.indent_at.Goals as goal
 
 pub returns-clause-gap : goal.returns-clause-gap
 returns-clause-gap c =
