@@ -1,10 +1,14 @@
--- A gap goes on over spaces.
-use Rattle.std.proofs.Common.{◌≡◌, ℕ, suc, ◌+◌, Bool, true, false, List, [], ◌∷◌, cond}
+-- A gap goes on over spaces, and ends where a token begins.
+use Rattle.std.proofs.Common.{◌≡◌, ℕ, suc, ◌+◌, ◌<◌, Bool, true, false, List, [], ◌∷◌, cond, length}
 use Rattle.std.proofs.Common.{get_or, take, drop, arith, sym, ap, subst, ◌∙◌, refl}
 use Rattle.std.proofs.lemmas.Bool.Decides.{nat_tests}
-use Rattle.std.proofs.lemmas.List.{drop-drop}
+use Rattle.std.proofs.Common.{None, length-drop}
+use Rattle.std.proofs.lemmas.List.{drop-drop, get_or-drop}
+use Rattle.std.specs.Option.{option_map_or}
 use Rattle.std.specs.List.{count_by, prefix_len}
-use Rattle.bean_lexer.specs.Gap.{is_line_feed, is_space, gap_len, behind_gap, behind_white}
+use Rattle.bean_lexer.specs.Gap.{is_line_feed, is_space, gap_len, gap_step, behind_gap, behind_white}
+use Rattle.bean_lexer.specs.Gap.{begins_token, is_comment, is_line_start, place_of}
+use Rattle.bean_lexer.specs.InGap.{IsLead}
 use Rattle.bean_lexer.specs.declared.gaps.Spot.{Spot}
 use Rattle.bean_lexer.specs.declared.gaps.Spot.TheVariants as spot
 use Rattle.bean_lexer.proofs.TokensFacts.{feeds_add}
@@ -89,3 +93,51 @@ over_spaces start bs end n feeds front first =
       behind = sym (ap (behind_gap (behind_white end)) rest) ∙ on.behind ∙ front.behind;
       feeds = omega (arith, none, seen, sum);
     }
+
+-- a gap ends at once where a token begins
+ends_at : (at : Spot) (bs : List ℕ) → 0 < length bs → gap_step at (get_or bs 0 0) ≡ None
+    → (gap_len at bs ≡ 0) × (behind_gap at bs ≡ at)
+ends_at at [] some none = absurd (omega arith)
+ends_at at (b ∷ bs) some none = (
+  ap (λ o. option_map_or (λ next. 1 + gap_len next bs) o 0) none,
+  ap (λ o. option_map_or (λ next. behind_gap next bs) o at) none,
+)
+
+pub begins_at : (at : Spot) (b : ℕ) → begins_token b ≡ true → is_comment at ≡ false
+    → is_line_start at ≡ false → gap_step at b ≡ None
+begins_at at b begins comment start = grind (arith, nat_tests)
+
+-- a front of a gap is the gap, if a token begins behind it
+pub whole_gap : (start : Spot) (bs : List ℕ) (end : Spot) (n feeds : ℕ)
+    → IsFront start bs end n feeds → n < length bs → gap_step end (get_or bs n 0) ≡ None
+    → IsLead start bs (record { len = n; line_feeds = feeds; place = place_of end })
+whole_gap start bs end n feeds front low none =
+    let same : n + 0 ≡ n = omega arith in
+    let here : get_or (drop n bs) 0 0 ≡ get_or bs n 0 =
+    get_or-drop n bs 0 0 ∙ ap (λ k. get_or bs k 0) same in
+    let long = length-drop n bs in
+    let ends = ends_at end (drop n bs) (omega arith) (ap (gap_step end) here ∙ none) in
+    let gap = front.gap in
+    let none_behind = ends.0 in
+    record {
+      inside = omega arith;
+      gap = omega (arith, gap, none_behind);
+      place = ap place_of (sym ends.1 ∙ front.behind);
+      feeds = front.feeds;
+    }
+
+-- spaces behind a token
+pub spaces_front : (bs : List ℕ) (n : ℕ) → n ≡ prefix_len is_space bs
+    → IsFront spot.Behind bs spot.Behind n 0
+spaces_front bs n is =
+    subst (λ k. IsFront spot.Behind bs spot.Behind k 0) (sym is)
+    (let on = run spot.Behind bs refl in
+    record { gap = on.gap; behind = on.behind; feeds = sym on.feeds })
+
+-- a line feed
+pub feed_front : (start : Spot) (bs : List ℕ) → 0 < length bs → get_or bs 0 0 ≡ 10
+    → IsFront start bs spot.LineStart 1 1
+feed_front start [] some feed = absurd (omega arith)
+feed_front start (b ∷ bs) some feed =
+    subst (λ k. IsFront start (k ∷ bs) spot.LineStart 1 1) (sym feed)
+    (record { gap = refl; behind = refl; feeds = refl })

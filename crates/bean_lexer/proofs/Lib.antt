@@ -12,6 +12,7 @@ pub mod CapitalFacts
 pub mod CodeFacts
 pub mod TableFacts
 pub mod TokensFacts
+pub mod ColumnOneToCome
 pub mod OneListOfTokensFacts
 mod Examples
 pub mod LineFeedFacts

@@ -193,3 +193,24 @@ token_to_come text rest line gap feeds more end behind token kind place n after 
           (subst (λ l. IsToken l kind n) (sym here) is_token),
       subst (λ k. TokensFrom text k ts) next to_come,
     )
+
+-- the place of a token behind a gap
+pub place_to_come :
+    (text rest : List ℕ) (line : ℕ) (place : Place) (t : Token) (ts : List Token) → IsAt text rest line
+    → place ≡ place_of (behind_gap (spot_at (length text - length rest)) rest)
+    → TokensFrom text (length text - length rest) (t ∷ ts) → t.place ≡ place
+place_to_come text rest line place t ts at is to_come =
+    to_come.2 ∙ ap (λ l. place_of (behind_gap (spot_at (length text - length rest)) l)) (sym at.is_rest)
+    ∙ sym is
+
+-- no token stands behind a gap that is all that is left
+pub none_behind :
+    (text rest : List ℕ) (line gap : ℕ) (t : Token) (ts : List Token) → IsAt text rest line
+    → gap ≡ gap_len (spot_at (length text - length rest)) rest → length rest ≤ gap
+    → TokensFrom text (length text - length rest) (t ∷ ts) → ⊥
+none_behind text rest line gap t ts at is all to_come =
+    let inside = at.inside in
+    let start = to_come.0 in
+    let low = to_come.1 in
+    let same = ap (gap_len (spot_at (length text - length rest))) at.is_rest in
+    omega (arith, inside, start, low, same, is, all)

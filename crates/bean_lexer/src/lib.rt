@@ -42,12 +42,17 @@ mod names;
 mod tables;
 mod texts;
 mod token;
-mod token_at;
+pub mod token_at;
 mod token_list;
 mod words;
 
+pub use digits::day_or_number;
+pub use found::{Counted, Found, on_one_line};
+pub use gaps::{Lead, Spot, gap_at};
 pub use kind::{Keyword, Kind, Place, Sign};
 pub use lexer::Lexer;
 pub use marks::{Link, MetaKey, Tag};
+pub use names::{account_at, account_or_currency, is_code};
+pub use tables::begins_token;
 pub use token::Token;
 pub use token_list::tokens;

@@ -1,6 +1,6 @@
 //! Accounts, currencies, tags and links.
 ghost use Rattle.std.specs.Prelude.{◌≡◌, ℕ, ◌+◌, ◌<◌, ◌≤◌, ◌&&◌, ◌||◌, ◌==◌, false, true, nat_lt};
-ghost use Rattle.std.specs.Prelude.{nat_eq, length, slice_index, IsTrue, take, drop, min, MatchOption};
+ghost use Rattle.std.specs.Prelude.{nat_eq, length, slice_index, IsTrue, take, drop, min, MatchOption, IfSome};
 ghost use Rattle.std.specs.List.{prefix_len};
 ghost use Rattle.std.specs.Cmp.Lexicographic.{pointwise};
 ghost use Rattle.std.specs.Char.{is_ascii_digit, is_ascii_uppercase};
@@ -12,6 +12,7 @@ ghost use Rattle.theory.specs.LongestFront.{IsLongestFront, HasNoFront};
 ghost use Rattle.bean_lexer.specs.Lookahead as lookahead;
 ghost use Rattle.bean_lexer.specs.Lookahead.{is_currency_form};
 ghost use Rattle.bean_lexer.specs.Tokens.{IsToken};
+ghost use Rattle.bean_lexer.specs.declared.kind.Kind.TheVariants as kinds;
 
 use crate::classes::{InComponent, InCurrency, InName};
 use crate::found::Found;
@@ -21,7 +22,7 @@ use byte_runs::{end_of_run, has_front};
 /// Three capitals stand at the front, and white space or a line feed behind them: so is most money
 /// named.
 #[inline(always)]
-fn is_code(bytes: &[u8]) -> bool
+pub fn is_code(bytes: &[u8]) -> bool
     ensures { result ≡ lookahead.is_code bytes.now }
 {
     bytes.len() > 3
@@ -45,13 +46,28 @@ pub fn account_or_currency(bytes: &[u8]) -> Found
             len: 3,
         };
     }
-    match account_len(bytes) {
-        Some(len) => Found {
-            kind: Kind::Account,
-            len,
-        },
+    match account_at(bytes) {
+        Some(found) => found,
         None => currency_or_truth(bytes),
     }
+}
+
+/// The account at the front, if one stands there.
+#[inline(always)]
+pub fn account_at(bytes: &[u8]) -> Option<Found>
+    requires some { 0 < length bytes.now }
+    requires capital { IsTrue (is_ascii_uppercase (slice_index bytes.now 0)) }
+    ensures token { MatchOption result (HasNoFront is_account bytes.now)
+        (λ found. IsToken bytes.now found.kind found.len) }
+    ensures kind { IfSome result (λ found. found.kind ≡ kinds.Account) }
+    ensures boundary { IfSome result
+        (λ found. IsUtf8 bytes.now → IsCharBoundary bytes.now found.len) }
+{
+    let len = account_len(bytes)?;
+    Some(Found {
+        kind: Kind::Account,
+        len,
+    })
 }
 
 /// The length of a root and its colon at the front, or 0. Most accounts are of expenses.

@@ -1,16 +1,16 @@
 -- What is kept of blocks, one after the other.
-use Rattle.std.proofs.Common.{◌≡◌, ℕ, ◌+◌, Bool, true, false, List, [], ◌∷◌, ◌++◌, length, refl, sym, ◌∙◌}
+use Rattle.std.proofs.Common.{◌≡◌, ℕ, ◌+◌, List, [], ◌∷◌, ◌++◌, length, refl, sym, ◌∙◌}
 use Rattle.std.proofs.Common.{ap, subst}
 use Rattle.std.proofs.Common.{append_assoc, arith}
 use Rattle.std.proofs.lemmas.List.{append-nil}
 use Rattle.std.specs.List.{flat_map}
-use Rattle.bean_parser.specs.Gathered.{IsGathered, undated_at}
+use Rattle.bean_parser.specs.Gathered.{AddsBlock, IsGathered, undated_at}
 use Rattle.bean_parser.specs.Parsed.{directives_in, settings_in, faults_in, bounds_in, all_bounds}
 use Rattle.bean_base.specs.declared.fault.Fault as faults
 use Rattle.bean_base.specs.declared.fault.FaultKind.TheVariants.{Ignored}
-use Rattle.bean_lexer.specs.declared.token.Token.{Token}
-use Rattle.bean_parser.specs.Outcome.{Gives, fault_at}
-use Rattle.bean_parser.specs.Waiting.{AddsPlain}
+use Rattle.bean_parser.specs.Outcome.{fault_at}
+use Rattle.bean_parser.specs.Taken.{TakesDirective}
+use Rattle.bean_lexer.specs.declared.lexer.Lexer.{Lexer}
 use Rattle.bean_parser.specs.declared.block.Outcome.{Outcome}
 use Rattle.bean_parser.specs.declared.block.Outcome.TheVariants as outcome
 use Rattle.bean_directives.specs.declared.directive.Directive as directives
@@ -158,27 +158,26 @@ bound_adds os line u b g g' is ds ss bs fs h =
       faults = fs ∙ sym (append-nil g.faults.items);
     } h)
 
--- what a plain block adds, and that another adds nothing
+-- what a plain transaction adds, and that nothing is added
 
-pub plain_adds : (block : List Token) (plain : Bool) (g g' : Gathered) → plain ≡ true
-    → AddsPlain plain block g.directives g'.directives → g'.settings.items ≡ g.settings.items
+pub transaction_adds :
+    (before after : Lexer) (d : directives.Directive) (g g' : Gathered) → TakesDirective d before after
+    → g'.directives ≡ g.directives ++ d ∷ [] → g'.settings.items ≡ g.settings.items
     → g'.bounds.items ≡ g.bounds.items → g'.faults.items ≡ g.faults.items
-    → (o : Outcome) × Gives block o
-    × ((os : List Outcome) → IsGathered os g → IsGathered (os ++ o ∷ []) g')
-plain_adds block plain g g' is adds ss bs fs =
-    let one = subst (λ b. AddsPlain b block g.directives g'.directives) is adds in (
-      outcome.Statement (statement.Directive one.0),
-      one.1,
-      λ os h. directive_adds os (statement.Directive one.0) one.0 g g' refl one.2 ss bs fs h,
-    )
+    → AddsBlock before g after g'
+transaction_adds before after d g g' taken ds ss bs fs = record {
+  block = taken.0;
+  outcome = outcome.Statement (statement.Directive d);
+  taken = taken.1;
+  gives = taken.2;
+  adds = λ os h. directive_adds os (statement.Directive d) d g g' refl ds ss bs fs h;
+}
 
-pub none_added : (block : List Token) (plain : Bool) (os : List Outcome) (g g' : Gathered)
-    → plain ≡ false → AddsPlain plain block g.directives g'.directives
+pub none_added : (os : List Outcome) (g g' : Gathered) → g'.directives ≡ g.directives
     → g'.settings.items ≡ g.settings.items → g'.bounds.items ≡ g.bounds.items
     → g'.faults.items ≡ g.faults.items → IsGathered os g → IsGathered os g'
-none_added block plain os g g' is adds ss bs fs h = record {
-  directives =
-      subst (λ b. AddsPlain b block g.directives g'.directives) is adds ∙ h.directives;
+none_added os g g' ds ss bs fs h = record {
+  directives = ds ∙ h.directives;
   settings = ss ∙ h.settings;
   bounds = bs ∙ h.bounds;
   faults = fs ∙ h.faults;

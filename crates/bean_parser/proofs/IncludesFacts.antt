@@ -30,7 +30,8 @@ use Rattle.bean_directives.specs.declared.undated.Undated as undated_blocks
 use Rattle.bean_directives.specs.declared.undated.UndatedKind.{UndatedKind}
 use Rattle.bean_directives.specs.declared.undated.UndatedKind.TheVariants as undated
 use Rattle.bean_parser.specs.Block.{begins_line, blocks, fault_line, line_of}
-use Rattle.bean_parser.specs.BlockReader.{ToRead, TakesBlock}
+use Rattle.bean_lexer.specs.ToCome.{ToCome}
+use Rattle.bean_parser.specs.Taking.{TakesBlock}
 use Rattle.bean_parser.specs.Grammar.{Dated, Undated, HasTree, HaveTree, Tree, in_body, said}
 use Rattle.bean_parser.specs.Includes.{AddsInclude, AreIncludeLines, AreIncludesOf, IsIncludeOf}
 use Rattle.bean_parser.specs.Includes.{HasOneListOfIncludes, IncludesAreSettings, with_first}
@@ -40,7 +41,7 @@ use Rattle.bean_parser.specs.Parsed.{settings_in, settings_of}
 use Rattle.bean_parser.specs.declared.block.Outcome.{Outcome}
 use Rattle.bean_parser.specs.declared.block.Outcome.TheVariants as outcome
 use Rattle.bean_parser.specs.declared.includes.IncludeLine.{IncludeLine}
-use Rattle.bean_parser.specs.declared.reader.BlockReader.{BlockReader}
+use Rattle.bean_lexer.specs.declared.lexer.Lexer.{Lexer}
 use Rattle.bean_parser.specs.declared.statement.Statement.TheVariants as statement
 use Rattle.bean_parser.proofs.OneReadingFacts.{one_outcome}
 
@@ -244,14 +245,14 @@ includes_are_settings text p found is are =
 
 -- Some blocks were read: the include lines of those that are still to be read complete the text's.
 
-abbrev pub IsRead : List ℕ → BlockReader → List IncludeLine → Type 0
-IsRead text reader found =
-    (ts : List Token) → ToRead reader ts → (more : List IncludeLine)
+abbrev pub IsRead : List ℕ → Lexer → List IncludeLine → Type 0
+IsRead text lexer found =
+    (ts : List Token) → ToCome lexer ts → (more : List IncludeLine)
     → AreIncludesOf (blocks ts) more → AreIncludeLines text (found ++ more)
 
-pub begun : (text : List ℕ) (reader : BlockReader)
-    → ((ts : List Token) → ToRead reader ts → AreTokens text ts) → IsRead text reader []
-begun text reader h = λ ts to_read more are. (ts, h ts to_read, are)
+pub begun : (text : List ℕ) (lexer : Lexer)
+    → ((ts : List Token) → ToCome lexer ts → AreTokens text ts) → IsRead text lexer []
+begun text lexer h = λ ts to_come more are. (ts, h ts to_come, are)
 
 first_and : (one : Option IncludeLine) (more : List IncludeLine)
     → with_first one more ≡ with_first one [] ++ more
@@ -259,11 +260,11 @@ first_and (Some include) more = refl
 first_and None more = refl
 
 pub one_more :
-    (text : List ℕ) (before after : BlockReader) (block : List Token) (old new : List IncludeLine)
+    (text : List ℕ) (before after : Lexer) (block : List Token) (old new : List IncludeLine)
     → IsRead text before old → TakesBlock true before block after → AddsInclude block old new
     → IsRead text after new
-one_more text before after block old new p takes adds = λ ts to_read more are.
-    let taken = takes ts to_read in
+one_more text before after block old new p takes adds = λ ts to_come more are.
+    let taken = takes ts to_come in
     let one = adds.0 in
     let next : AreIncludesOf (blocks (block ++ ts)) (with_first one more) =
     subst (λ bs. AreIncludesOf bs (with_first one more)) (sym taken.1)
@@ -273,7 +274,7 @@ one_more text before after block old new p takes adds = λ ts to_read more are.
     ∙ ap (λ xs. xs ++ more) (sym adds.2) in
     subst (AreIncludeLines text) same (p (block ++ ts) taken.0 (with_first one more) next)
 
-pub ended : (text : List ℕ) (reader : BlockReader) (found : List IncludeLine)
-    → IsRead text reader found → ToRead reader [] → AreIncludeLines text found
-ended text reader found p at =
+pub ended : (text : List ℕ) (lexer : Lexer) (found : List IncludeLine)
+    → IsRead text lexer found → ToCome lexer [] → AreIncludeLines text found
+ended text lexer found p at =
     subst (AreIncludeLines text) (append-nil found) (p [] at [] refl)

@@ -1,4 +1,4 @@
-pub mod BlockReaderFacts
+pub mod TakingFacts
 pub mod LineFacts
 pub mod LinesFacts
 pub mod PlainLinesFacts

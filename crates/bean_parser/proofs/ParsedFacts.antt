@@ -6,8 +6,9 @@ use Rattle.bean_base.specs.declared.fault.Fault as faults
 use Rattle.bean_lexer.specs.Tokens.{AreTokens}
 use Rattle.bean_lexer.specs.declared.token.Token.{Token}
 use Rattle.bean_parser.specs.Block.{blocks}
-use Rattle.bean_parser.specs.BlockReader.{ToRead, TakesBlock}
-use Rattle.bean_parser.specs.Gathered.{IsGathered}
+use Rattle.bean_lexer.specs.ToCome.{ToCome}
+use Rattle.bean_parser.specs.Taking.{TakesBlock}
+use Rattle.bean_parser.specs.Gathered.{AddsBlock, IsGathered}
 use Rattle.bean_parser.specs.Outcome.{Gives, AllGive}
 use Rattle.bean_parser.specs.Parsed.{IsParsed, ComeTo, AreByLine}
 use Rattle.bean_pushes.specs.Scope.{unmatched, with_pushes}
@@ -15,7 +16,7 @@ use Rattle.bean_parser.specs.declared.block.Outcome.{Outcome}
 use Rattle.bean_directives.specs.declared.directive.Directive as directives
 use Rattle.bean_parser.specs.declared.parse.Gathered.{Gathered}
 use Rattle.bean_parser.specs.declared.parse.Parsed.{Parsed}
-use Rattle.bean_parser.specs.declared.reader.BlockReader.{BlockReader}
+use Rattle.bean_lexer.specs.declared.lexer.Lexer.{Lexer}
 use Rattle.bean_directives.specs.declared.undated.Setting as settings
 
 -- what a text's blocks give begins with some outcomes
@@ -24,31 +25,31 @@ Begins text os = (tokens : List Token) × AreTokens text tokens × AllGive (bloc
 
 -- Some blocks are read: what the tokens give that are still to be read completes what the text
 -- gives.
-pub record InText (text : List ℕ) (reader : BlockReader) (g : Gathered) : Type 0 where
+pub record InText (text : List ℕ) (lexer : Lexer) (g : Gathered) : Type 0 where
   pub outcomes : List Outcome
-  pub whole : (ts : List Token) → ToRead reader ts → (more : List Outcome)
+  pub whole : (ts : List Token) → ToCome lexer ts → (more : List Outcome)
       → AllGive (blocks ts) more → Begins text (outcomes ++ more)
   pub gathered : IsGathered outcomes g
 
-pub text_begins : (text : List ℕ) (reader : BlockReader) (g : Gathered)
-    → ((ts : List Token) → ToRead reader ts → AreTokens text ts) → IsGathered [] g
-    → InText text reader g
-text_begins text reader g h none =
+pub text_begins : (text : List ℕ) (lexer : Lexer) (g : Gathered)
+    → ((ts : List Token) → ToCome lexer ts → AreTokens text ts) → IsGathered [] g
+    → InText text lexer g
+text_begins text lexer g h none =
     record {
       outcomes = [];
-      whole = λ ts to_read more give. (ts, h ts to_read, give);
+      whole = λ ts to_come more give. (ts, h ts to_come, give);
       gathered =
           none;
     }
 
 pub block_more :
-    (text : List ℕ) (before after : BlockReader) (block : List Token) (o : Outcome)
+    (text : List ℕ) (before after : Lexer) (block : List Token) (o : Outcome)
     (g g' : Gathered) → InText text before g → TakesBlock true before block after → Gives block o
     → ((os : List Outcome) → IsGathered os g → IsGathered (os ++ o ∷ []) g') → InText text after g'
 block_more text before after block o g g' p takes gives adds = record {
   outcomes = p.outcomes ++ o ∷ [];
-  whole = λ ts to_read more give.
-      let taken = takes ts to_read in
+  whole = λ ts to_come more give.
+      let taken = takes ts to_come in
       let next : AllGive (blocks (block ++ ts)) (o ∷ more) =
       subst (λ bs. AllGive bs (o ∷ more)) (sym taken.1) (gives, give) in
       subst (Begins text) (sym (append_assoc p.outcomes (o ∷ []) more))
@@ -56,10 +57,15 @@ block_more text before after block o g g' p takes gives adds = record {
   gathered = adds p.outcomes p.gathered;
 }
 
-pub text_ends : (text : List ℕ) (reader : BlockReader) (g : Gathered) (parsed : Parsed)
-    → InText text reader g → ToRead reader []
+pub next_more : (text : List ℕ) (before after : Lexer) (g g' : Gathered) → InText text before g
+    → AddsBlock before g after g' → InText text after g'
+next_more text before after g g' p next =
+    block_more text before after next.block next.outcome g g' p next.taken next.gives next.adds
+
+pub text_ends : (text : List ℕ) (lexer : Lexer) (g : Gathered) (parsed : Parsed)
+    → InText text lexer g → ToCome lexer []
     → ((os : List Outcome) → IsGathered os g → ComeTo os parsed) → IsParsed text parsed
-text_ends text reader g parsed p at come =
+text_ends text lexer g parsed p at come =
     let all : Begins text p.outcomes =
     subst (Begins text) (append-nil p.outcomes) (p.whole [] at [] refl) in
     (all.0, p.outcomes, all.1, all.2, come p.outcomes p.gathered)

@@ -5,8 +5,6 @@ use Rattle.std.specs.List.{find}
 use Rattle.theory.specs.Cut.{cut_before}
 use Rattle.bean_lexer.specs.declared.kind.Kind.{Kind}
 use Rattle.bean_lexer.specs.declared.kind.Kind.TheVariants as kind
-use Rattle.bean_lexer.specs.declared.kind.Sign.{Sign}
-use Rattle.bean_lexer.specs.declared.kind.Sign.TheVariants as sign
 use Rattle.bean_lexer.specs.declared.kind.Place.{Place}
 use Rattle.bean_lexer.specs.declared.kind.Place.TheVariants.{ColumnOne, Indented, Inside}
 use Rattle.bean_lexer.specs.declared.token.Token.{Token}
@@ -55,23 +53,9 @@ abbrev pub is_fault : Kind → Bool
 is_fault kind.Fault = true
 is_fault kind = false
 
+abbrev pub is_fault_token : Token → Bool
+is_fault_token t = is_fault t.kind
+
 -- the line on which the first fault token begins
 abbrev pub fault_line : List Token → Option ℕ
-fault_line ts = option_map (λ t. t.line) (find (λ t. is_fault t.kind) ts)
-
--- what may stand in a plain block: a transaction without tags, links, entries, costs and prices
-abbrev pub is_plain_sign : Sign → Bool
-is_plain_sign sign.Star = true
-is_plain_sign sign.Bang = true
-is_plain_sign sign.Plus = true
-is_plain_sign sign.Minus = true
-is_plain_sign s = false
-
-abbrev pub is_plain : Kind → Bool
-is_plain kind.Day = true
-is_plain kind.Number = true
-is_plain kind.Text = true
-is_plain kind.Account = true
-is_plain kind.Currency = true
-is_plain (kind.Sign s) = is_plain_sign s
-is_plain k = false
+fault_line ts = option_map (λ t. t.line) (find is_fault_token ts)

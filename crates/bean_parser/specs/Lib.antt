@@ -9,4 +9,6 @@ pub mod Waiting
 pub mod Gathered
 pub mod OneReading
 pub mod Includes
-pub mod BlockReader
+pub mod Taking
+pub mod Plain
+pub mod Taken

@@ -1,15 +1,11 @@
 -- Directives that wait until the block of memory is full in which their postings stand.
-use Rattle.std.specs.Prelude.{◌≡◌, ℕ, ◌≤◌, Bool, true, false, List, [], ◌∷◌, ◌++◌, Option, Some, None}
+use Rattle.std.specs.Prelude.{ℕ, ◌≤◌, List, Option, Some, None}
 use Rattle.std.specs.Prelude.{length, slice_range}
-use Rattle.bean_lexer.specs.declared.token.Token.{Token}
 use Rattle.bean_directives.specs.Given.{with_postings}
 use Rattle.bean_directives.specs.declared.directive.Directive as directives
 use Rattle.bean_postings.specs.declared.posting.Posting.{Posting}
-use Rattle.bean_parser.specs.Outcome.{Gives}
-use Rattle.bean_parser.specs.declared.block.Outcome.TheVariants as outcome
 use Rattle.bean_parser.specs.declared.directives.InBlock.{InBlock}
 use Rattle.bean_parser.specs.declared.directives.Waiting.{Waiting}
-use Rattle.bean_parser.specs.declared.statement.Statement.TheVariants as statements
 
 -- a directive that waits is given the part of a block's postings that is its own
 abbrev pub completed_by : List Posting → directives.Directive → Option InBlock → directives.Directive
@@ -26,9 +22,3 @@ IsPart n (Some p) = (p.first ≤ p.end) × (p.end ≤ n)
 
 abbrev pub IsWithin : List Posting → Waiting → Type 0
 IsWithin ps w = IsPart (length ps) w.part
-
--- a plain block adds the one directive that it gives
-abbrev pub AddsPlain : Bool → List Token → List directives.Directive → List directives.Directive → Type 0
-AddsPlain true block old new = (d : directives.Directive)
-    × Gives block (outcome.Statement (statements.Directive d)) × (new ≡ old ++ d ∷ [])
-AddsPlain false block old new = new ≡ old

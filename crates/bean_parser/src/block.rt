@@ -17,7 +17,7 @@ use crate::part::{Part, first_line, first_part};
 use crate::statement::Statement;
 use crate::under::{Body, all_postings, other_lines, own_lines, plain_lines};
 use bean_base::{Day, Fault, FaultKind, Few, List, Place};
-use bean_directives::head::{head, plain_head};
+use bean_directives::head::head;
 use bean_directives::undated::undated_line;
 use bean_directives::{Directive, DirectiveKind, Stretch, Transaction, Undated};
 use bean_grammar::{Mark, Ranged};
@@ -39,7 +39,7 @@ fn is_fault(kind: Kind) -> bool
 }
 
 /// The line on which the first fault token begins.
-fn fault_line(block: &[Token<'_>]) -> Option<usize>
+pub(crate) fn fault_line(block: &[Token<'_>]) -> Option<usize>
     ensures { result ≡ spec.fault_line block.now }
 {
     block
@@ -48,7 +48,8 @@ fn fault_line(block: &[Token<'_>]) -> Option<usize>
         .map(|token| token.line)
 }
 
-fn is_in_column_one(block: &[Token<'_>]) -> bool
+/// Whether a block begins in the first column.
+pub(crate) fn is_in_column_one(block: &[Token<'_>]) -> bool
     ensures { result ≡ spec.is_in_column_one block.now }
 {
     match block.first() {
@@ -225,7 +226,7 @@ fn undated_block<'a>(
 }
 
 /// A line as a directive keeps it. A text of a ledger has far fewer lines than 32 bits count.
-fn kept_line(line: usize) -> Result<u32, AllocError>
+pub(crate) fn kept_line(line: usize) -> Result<u32, AllocError>
     ensures { IfOk result (λ kept. kept ≡ line) }
 {
     match u32::try_from(line) {
@@ -262,63 +263,6 @@ pub fn fault_at(kind: FaultKind, line: usize) -> Fault
     Fault {
         kind,
         place: Place { file: 0, line },
-    }
-}
-
-/// Whether a token may stand in a plain block.
-fn is_plain(kind: Kind) -> bool
-    ensures { result ≡ spec.is_plain kind }
-{
-    match kind {
-        Kind::Day | Kind::Number | Kind::Text | Kind::Account | Kind::Currency => true,
-        Kind::Sign(Sign::Star | Sign::Bang | Sign::Plus | Sign::Minus) => true,
-        _ => false,
-    }
-}
-
-/// Whether each token may stand in a plain block: a look that leaves out most of the others.
-fn are_plain(block: &[Token<'_>]) -> bool
-    ensures { result ≡ list_all (λ t. spec.is_plain t.kind) block.now }
-{
-    block.iter().all(|token| is_plain(token.kind))
-}
-
-/// The directive that a block gives which is a transaction with a plain first line and nothing but
-/// plain postings under it, which are added to others: it is to be given them. Nearly all blocks are
-/// such, and what they say is read without a look at what others may say; of the others nothing is
-/// said.
-#[inline(always)]
-pub fn plain_block<'a>(
-    block: &[Token<'a>],
-    postings: &mut Vec<WrittenPosting<'a>>,
-) -> Result<Option<Directive<'a>>, AllocError>
-    ensures { (ps : prelude.List Posting) × (postings.new.items ≡ postings.old.items ++ ps)
-        × IfOk result (λ found. IfSome found (λ d.
-        Gives block.now (outcome.Statement (statements.Directive (with_postings ps d))))) }
-{
-    if !are_plain(block) {
-        return Ok(None);
-    }
-    if !is_in_column_one(block) {
-        return Ok(None);
-    }
-    let Some((first, under)) = first_part(Part::Line, block) else {
-        return Ok(None);
-    };
-    // What can fail comes first, so that a transaction that was read is given up nowhere.
-    let others = plain_lines(under, postings)?;
-    if !others.is_empty() {
-        return Ok(None);
-    }
-    let line = kept_line(first_line(block))?;
-    match plain_head(first) {
-        Some((day, transaction)) => Ok(Some(Directive {
-            day,
-            line,
-            metadata: Few::new(),
-            kind: DirectiveKind::Transaction(transaction),
-        })),
-        None => Ok(None),
     }
 }
 

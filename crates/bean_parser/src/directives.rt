@@ -1,12 +1,13 @@
 //! The directives of a text while they are gathered: the postings of many lie in one block of memory.
-ghost use Rattle.std.specs.Prelude.{◌≡◌, ◌≤◌, ◌++◌, ◌∷◌, [], IfOk, OnErr, OnOk, length, map};
+ghost use Rattle.std.specs.Prelude.{◌≡◌, ◌<◌, ◌≤◌, ◌++◌, ◌∷◌, [], IfOk, OnErr, OnOk, length, map, true};
 ghost use Rattle.std.specs.List.{AllByRecursion};
 ghost use Rattle.bean_directives.specs.Given.{with_postings};
-ghost use Rattle.bean_parser.specs.Waiting.{AddsPlain, IsWithin, completed};
+ghost use Rattle.bean_parser.specs.Taken.{AddsPlain, found};
+ghost use Rattle.bean_parser.specs.Waiting.{IsWithin, completed};
 
-use crate::block::plain_block;
+use crate::reader::{Taken, take_next};
 use bean_directives::{ApartDirective, Directive, Stretch};
-use bean_lexer::Token;
+use bean_lexer::{Lexer, Token};
 use bean_postings::WrittenPosting;
 use std::alloc::{AllocError, Global};
 use std::marker::Model;
@@ -21,6 +22,17 @@ const MOST_WAITING: usize = 1_024;
 
 /// So many postings have most transactions at most: a block with no more room is full.
 const ROOM: usize = 16;
+
+/// What the next block of a text is.
+#[derive(Clone, Copy, PartialEq, Eq)]
+pub enum Next {
+    /// There is none.
+    Nothing,
+    /// A plain transaction, which was added.
+    Added,
+    /// Another, of which the tokens are known.
+    Block,
+}
 
 /// A directive that waits until the block is full in which its postings stand.
 #[derive(Drop)]
@@ -180,15 +192,22 @@ impl<'a> Directives<'a> {
         self.settle_if_full(alloc)
     }
 
-    /// Adds the transaction that a block is, if it is a plain one, which it tells. Each of its postings
-    /// is moved but once, to where it stays.
+    /// Takes the next block off a lexer, and adds the transaction that it is, if it is a plain one. Each of
+    /// its postings is moved but once, to where it stays. `block` comes to hold the tokens of any other.
     #[inline(always)]
-    pub fn add_plain(&mut self, alloc: Global, block: &[Token<'a>]) -> Result<bool, AllocError>
-        ensures { IfOk result (λ plain. AddsPlain plain block.now self.old self.new) }
+    pub fn add_plain(
+        &mut self,
+        alloc: Global,
+        lexer: &mut Lexer<'a>,
+        block: &mut Vec<Token<'a>>,
+    ) -> Result<Next, AllocError>
+        ensures added { IfOk result (λ next. AddsPlain next lexer.old block.new.items lexer.new self.old self.new) }
+        ensures shorter { IfOk result
+            (λ next. found next ≡ true → length lexer.new.rest.now < length lexer.old.rest.now) }
     {
         let first = self.postings.len();
-        match plain_block(block, &mut self.postings)? {
-            Some(directive) => {
+        match take_next(lexer, block, &mut self.postings)? {
+            Taken::Transaction(directive) => {
                 let end = self.postings.len();
                 let directive = ApartDirective::new(alloc, directive)?;
                 self.waiting.push(Waiting {
@@ -196,12 +215,10 @@ impl<'a> Directives<'a> {
                     part: Some(InBlock { first, end }),
                 })?;
                 self.settle_if_full(alloc)?;
-                Ok(true)
+                Ok(Next::Added)
             }
-            None => {
-                self.postings.truncate(first);
-                Ok(false)
-            }
+            Taken::Block => Ok(Next::Block),
+            Taken::Nothing => Ok(Next::Nothing),
         }
     }
 

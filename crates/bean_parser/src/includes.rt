@@ -5,12 +5,12 @@ ghost use Rattle.bean_parser.specs.Includes.{AddsInclude, AreIncludeLines, HasIn
 ghost use Rattle.bean_parser.specs.Includes.{IsIncludeOf};
 
 use crate::block::{Outcome, read_block};
-use crate::reader::BlockReader;
+use crate::reader::next_block;
 use crate::statement::Statement;
 use bean_base::Text;
 use bean_directives::{SettingKind, Undated, UndatedKind};
 use bean_grammar::front::after_keyword;
-use bean_lexer::{Keyword, Token};
+use bean_lexer::{Keyword, Lexer, Token};
 use memchr::memmem;
 use std::alloc::{AllocError, Global};
 
@@ -96,8 +96,8 @@ pub fn include_lines(alloc: Global, text: &str) -> Result<Vec<IncludeLine<'_>>, 
         return Ok(found);
     }
     let mut block = Vec::new(alloc);
-    let mut reader = BlockReader::new(text);
-    while reader.next_block(&mut block)? {
+    let mut lexer = Lexer::new(text);
+    while next_block(&mut lexer, &mut block)? {
         add_include(alloc, &block, &mut found)?;
     }
     Ok(found)

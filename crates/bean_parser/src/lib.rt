@@ -47,6 +47,7 @@ mod grammar;
 pub mod includes;
 pub mod parse;
 mod part;
+mod plain;
 mod reader;
 mod sizes;
 mod statement;

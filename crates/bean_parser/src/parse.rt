@@ -1,18 +1,17 @@
 //! What a ledger's text says: its directives, its settings and its faults.
-ghost use Rattle.std.specs.Prelude.{◌≡◌, ◌++◌, ◌∷◌, [], List, IfOk, OnOk};
+ghost use Rattle.std.specs.Prelude.{◌≡◌, ◌<◌, ◌++◌, ◌∷◌, [], List, IfOk, OnOk, IsTrue, length};
 ghost use Rattle.bean_parser.specs.Parsed.{IsParsed, ComeTo, AreByLine};
-ghost use Rattle.bean_parser.specs.Gathered.{IsGathered, undated_at};
+ghost use Rattle.bean_parser.specs.Gathered.{AddsNext, IsGathered, undated_at};
 ghost use Rattle.bean_parser.specs.declared.block.Outcome.{Outcome};
 ghost use Rattle.bean_parser.specs.declared.block.Outcome.TheVariants as outcome;
 ghost use Rattle.bean_parser.specs.Outcome.{Gives};
 
 use crate::block::{Outcome, fault_at, read_block};
-use crate::directives::Directives;
-use crate::reader::BlockReader;
+use crate::directives::{Directives, Next};
 use crate::statement::Statement;
 use bean_base::{Fault, FaultKind, List};
 use bean_directives::{ApartDirective, Setting, UndatedKind};
-use bean_lexer::Token;
+use bean_lexer::{Lexer, Token};
 use bean_pushes::{PlacedBound, add_unmatched, give_all, reaches};
 use std::alloc::{AllocError, Global};
 
@@ -80,15 +79,25 @@ impl<'a> Gathered<'a> {
         }
     }
 
-    /// Adds what a block gives.
-    fn add_block(&mut self, alloc: Global, block: &[Token<'a>]) -> Result<(), AllocError>
-        ensures { OnOk result ((o : Outcome) × Gives block.now o
-            × ((os : List Outcome) → IsGathered os self.old → IsGathered (os ++ o ∷ []) self.new)) }
+    /// Adds what the next block of a text gives, if there is one. `block` has room for its tokens.
+    fn add_next(
+        &mut self,
+        alloc: Global,
+        lexer: &mut Lexer<'a>,
+        block: &mut Vec<Token<'a>>,
+    ) -> Result<bool, AllocError>
+        ensures added { IfOk result (λ some. AddsNext some lexer.old self.old lexer.new self.new) }
+        ensures shorter { IfOk result (λ some. IsTrue some
+            → length lexer.new.rest.now < length lexer.old.rest.now) }
     {
-        if self.directives.add_plain(alloc, block)? {
-            return Ok(());
+        match self.directives.add_plain(alloc, lexer, block)? {
+            Next::Nothing => Ok(false),
+            Next::Added => Ok(true),
+            Next::Block => {
+                self.add_other(alloc, block)?;
+                Ok(true)
+            }
         }
-        self.add_other(alloc, block)
     }
 
     /// Adds what a block gives that isn't plain. In place, it would clear memory for each that is.
@@ -129,9 +138,7 @@ pub fn parse(alloc: Global, text: &str) -> Result<Parsed<'_>, AllocError>
 {
     let mut gathered = Gathered::new(alloc);
     let mut block = Vec::new(alloc);
-    let mut reader = BlockReader::new(text);
-    while reader.next_block(&mut block)? {
-        gathered.add_block(alloc, &block)?;
-    }
+    let mut lexer = Lexer::new(text);
+    while gathered.add_next(alloc, &mut lexer, &mut block)? {}
     gathered.parsed(alloc)
 }

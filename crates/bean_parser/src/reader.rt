@@ -1,47 +1,66 @@
-//! The blocks of a text, one after the other.
-ghost use Rattle.std.specs.Prelude.{◌≡◌, ◌++◌, ◌∷◌, [], List, ◌<◌, length, IfOk, OnOk, IfSome, IsTrue};
+//! The blocks of a text, one after the other, as a lexer gives its tokens.
+ghost use Rattle.std.specs.Prelude.{◌≡◌, ◌++◌, ◌∷◌, [], List, ◌<◌, ◌≤◌, length, IfOk, OnOk, IsTrue};
+ghost use Rattle.std.specs.Prelude.{true, MatchOption, IfSome};
+ghost use Rattle.bean_lexer.specs.ToCome.{ToCome};
 ghost use Rattle.bean_lexer.specs.declared.token.Token.{Token};
-ghost use Rattle.bean_lexer.specs.Tokens.{AreTokens};
-ghost use Rattle.bean_parser.specs.BlockReader.{ToRead, left_of, TakesBlock, TakesOthers};
+ghost use Rattle.bean_postings.specs.declared.posting.Posting.{Posting};
+ghost use Rattle.bean_parser.specs.Taking.{TakesBlock, TakesLine, TakesInside, TakesOthers};
+ghost use Rattle.bean_parser.specs.Taken.{Takes, is_some};
 
-use crate::part::Part;
+use crate::plain::take_transaction;
+use bean_directives::Directive;
 use bean_lexer::{Lexer, Token};
+use bean_postings::WrittenPosting;
+use expected_tokens::{next_day, next_inside, next_past_column_one};
 use std::alloc::AllocError;
 
-/// Takes the blocks of a text off its tokens, one after the other.
+/// What was taken of a text.
 #[derive(Drop)]
-pub struct BlockReader<'a> {
-    pub lexer: Lexer<'a>,
-    /// The first token of the next block.
-    pub first: Option<Token<'a>>,
+pub enum Taken<'a> {
+    /// Nothing: no block is left.
+    Nothing,
+    /// A plain transaction, which is to be given its postings.
+    Transaction(Directive<'a>),
+    /// The tokens of a block.
+    Block,
 }
 
-impl<'a> BlockReader<'a> {
-    /// All the tokens of a text are still to be read.
-    pub fn new(text: &'a str) -> BlockReader<'a>
-        ensures { (ts : List Token) → ToRead result ts → AreTokens text.now ts }
-    {
-        let mut lexer = Lexer::new(text);
-        let first = lexer.next_token();
-        BlockReader { lexer, first }
+/// Takes the next block off a lexer, if there is one. Of a transaction with a plain first line and nothing
+/// but plain postings under it the postings are added to others as they are read. Nearly all blocks are
+/// such, and no token of their postings is kept. `block` comes to hold the tokens of any other, in place
+/// of what it held.
+#[inline(always)]
+pub fn take_next<'a>(
+    lexer: &mut Lexer<'a>,
+    block: &mut Vec<Token<'a>>,
+    postings: &mut Vec<WrittenPosting<'a>>,
+) -> Result<Taken<'a>, AllocError>
+    ensures block { (ps : List Posting) × (postings.new.items ≡ postings.old.items ++ ps)
+        × IfOk result (λ taken. Takes taken ps lexer.old block.new.items lexer.new) }
+    ensures shorter { IfOk result (λ taken. is_some taken ≡ true
+        → length lexer.new.rest.now < length lexer.old.rest.now) }
+{
+    if !take_line(lexer, block)? {
+        return Ok(Taken::Nothing);
     }
+    if let Some(directive) = take_transaction(lexer, block, postings)? {
+        return Ok(Taken::Transaction(directive));
+    }
+    take_others(lexer, block)?;
+    Ok(Taken::Block)
+}
 
-    /// Fills `block` with the tokens of the next block, if there is one, in place of what it held.
-    pub fn next_block(&mut self, block: &mut Vec<Token<'a>>) -> Result<bool, AllocError>
-        ensures block { IfOk result (λ some. TakesBlock some self.old block.new.items self.new) }
-        ensures shorter { IfOk result (λ some. IsTrue some → left_of self.new < left_of self.old) }
-    {
-        block.clear();
-        let Some(first) = self.first.take() else {
-            return Ok(false);
-        };
-        block.push(first)?;
-        // What a lexer keeps lies in registers while it goes on from token to token.
-        let mut lexer = self.lexer;
-        self.first = take_others(&mut lexer, block)?;
-        self.lexer = lexer;
-        Ok(true)
+/// Fills `block` with the tokens of the next block, if there is one, in place of what it held.
+pub fn next_block<'a>(lexer: &mut Lexer<'a>, block: &mut Vec<Token<'a>>) -> Result<bool, AllocError>
+    ensures block { IfOk result (λ some. TakesBlock some lexer.old block.new.items lexer.new) }
+    ensures shorter { IfOk result (λ some. IsTrue some
+        → length lexer.new.rest.now < length lexer.old.rest.now) }
+{
+    if !take_line(lexer, block)? {
+        return Ok(false);
     }
+    take_others(lexer, block)?;
+    Ok(true)
 }
 
 /// Adds a token. Mostly there is room, since a block comes where others were.
@@ -57,21 +76,67 @@ fn add_token<'a>(block: &mut Vec<Token<'a>>, token: Token<'a>) -> Result<(), All
     Ok(())
 }
 
-/// Adds the tokens of a lexer up to the next one that begins a block, which it gives.
-fn take_others<'a>(
-    lexer: &mut Lexer<'a>,
-    block: &mut Vec<Token<'a>>,
-) -> Result<Option<Token<'a>>, AllocError>
-    ensures others { IfOk result
-        (λ next. TakesOthers lexer.old block.old.items next lexer.new block.new.items) }
-    ensures shorter { IfOk result (λ next. IfSome next
-        (λ _. length lexer.new.rest.now < length lexer.old.rest.now)) }
+/// The next token, of whatever kind. It stays a call of its own, since most blocks begin with a day.
+#[inline(never)]
+fn any_token<'a>(lexer: &mut Lexer<'a>) -> Option<Token<'a>>
+    ensures tokens { MatchOption result ((ToCome lexer.old []) × (lexer.new ≡ lexer.old))
+        (λ t. (ts : List Token) → ToCome lexer.new ts → ToCome lexer.old (t ∷ ts)) }
+    ensures shorter { IfSome result (λ _. length lexer.new.rest.now < length lexer.old.rest.now) }
 {
-    while let Some(token) = lexer.next_token() {
-        if Part::Block.begins_at(token.place) {
-            return Ok(Some(token));
-        }
+    lexer.next_token()
+}
+
+/// The next token, which mostly is a day.
+#[inline(always)]
+fn first_token<'a>(lexer: &mut Lexer<'a>) -> Option<Token<'a>>
+    ensures tokens { MatchOption result ((ToCome lexer.old []) × (lexer.new ≡ lexer.old))
+        (λ t. (ts : List Token) → ToCome lexer.new ts → ToCome lexer.old (t ∷ ts)) }
+    ensures shorter { IfSome result (λ _. length lexer.new.rest.now < length lexer.old.rest.now) }
+{
+    match next_day(lexer) {
+        Some(day) => Some(day),
+        None => any_token(lexer),
+    }
+}
+
+/// Fills `block` with the next token, if there is one, and those behind it in its line, as far as spaces
+/// alone stand between them.
+#[inline(never)]
+fn take_line<'a>(lexer: &mut Lexer<'a>, block: &mut Vec<Token<'a>>) -> Result<bool, AllocError>
+    ensures { IfOk result (λ some. TakesLine some lexer.old block.new.items lexer.new) }
+{
+    block.clear();
+    let Some(first) = first_token(lexer) else {
+        return Ok(false);
+    };
+    add_token(block, first)?;
+    take_inside(lexer, block)?;
+    Ok(true)
+}
+
+/// Adds the tokens of a lexer that stand in the same line, as far as spaces alone stand between them.
+#[inline(always)]
+fn take_inside<'a>(lexer: &mut Lexer<'a>, block: &mut Vec<Token<'a>>) -> Result<(), AllocError>
+    ensures { OnOk result (TakesInside lexer.old block.old.items lexer.new block.new.items) }
+{
+    // What a lexer keeps lies in registers while it goes on from token to token.
+    let mut at = *lexer;
+    while let Some(token) = next_inside(&mut at) {
         add_token(block, token)?;
     }
-    Ok(None)
+    *lexer = at;
+    Ok(())
+}
+
+/// Adds the tokens of a lexer up to the next one that begins a block.
+#[inline(never)]
+fn take_others<'a>(lexer: &mut Lexer<'a>, block: &mut Vec<Token<'a>>) -> Result<(), AllocError>
+    ensures { OnOk result (TakesOthers lexer.old block.old.items lexer.new block.new.items) }
+{
+    let mut at = *lexer;
+    while let Some(token) = next_past_column_one(&mut at) {
+        add_token(block, token)?;
+    }
+    *lexer = at;
+    Ok(())
 }

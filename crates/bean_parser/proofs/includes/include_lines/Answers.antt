@@ -1,5 +1,5 @@
 use Rattle.std.proofs.Common.{arith, MatchBool, subst, sym}
-use Rattle.bean_parser.specs.BlockReader.{TakesBlock}
+use Rattle.bean_parser.specs.Taking.{TakesBlock}
 use Rattle.bean_parser.specs.Includes.{AddsInclude, AreIncludeLines, HasIncludeWord}
 use Rattle.bean_parser.proofs.IncludesFacts.{one_more, ended}
 use Rattle.bean_parser.proofs.NoIncludeFacts.{none_without_word}
@@ -16,8 +16,8 @@ returns-then-not-has_include_word c =
 
 pub loop-block-preserved : goal.loop-block-preserved
 loop-block-preserved c =
-    let before = c.loop-block.reader in
-    let after = c.next_block.new.self in
+    let before = c.loop-block.lexer in
+    let after = c.next_block.new.lexer in
     let block = c.next_block.new.block.items in
     let old = c.loop-block.found.items in
     let new = c.add_include.new.found.items in
@@ -31,7 +31,7 @@ loop-block-preserved c =
 pub returns : goal.returns
 returns c =
     let takes =
-    subst (λ some. TakesBlock some c.loop-block.reader c.next_block.new.block.items
-    c.next_block.new.self) c.if-branch.false c.in_ok-next_block.ensures.block in
-    ended c.args.text.now c.loop-block.reader c.loop-block.found.items c.loop-block.invariant
+    subst (λ some. TakesBlock some c.loop-block.lexer c.next_block.new.block.items
+    c.next_block.new.lexer) c.if-branch.false c.in_ok-next_block.ensures.block in
+    ended c.args.text.now c.loop-block.lexer c.loop-block.found.items c.loop-block.invariant
     takes.0

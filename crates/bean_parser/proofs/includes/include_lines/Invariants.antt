@@ -1,9 +1,9 @@
-use Rattle.bean_parser.specs.BlockReader.{left_of}
+use Rattle.bean_parser.specs.Taking.{left_of}
 use Rattle.bean_parser.proofs.IncludesFacts.{IsRead}
 use Rattle.bean_parser.proofs.includes.include_lines.Given as goal
 
 abbrev pub invariant-loop-block : goal.invariant-loop-block
-invariant-loop-block l = IsRead l.text l.reader l.found.items
+invariant-loop-block l = IsRead l.text l.lexer l.found.items
 
 abbrev pub decreases-loop-block : goal.decreases-loop-block
-decreases-loop-block l = left_of l.reader
+decreases-loop-block l = left_of l.lexer

@@ -1,9 +1,9 @@
 use Rattle.std.proofs.Common.{length}
-use Rattle.bean_parser.proofs.BlockReaderFacts.{Taking}
+use Rattle.bean_parser.proofs.TakingFacts.{Taking}
 use Rattle.bean_parser.proofs.reader.take_others.Given as goal
 
 abbrev pub invariant-loop-token : goal.invariant-loop-token
-invariant-loop-token l = Taking l.fn.lexer l.fn.block.items l.lexer l.block.items
+invariant-loop-token l = Taking l.fn.lexer l.fn.block.items l.at l.block.items
 
 abbrev pub decreases-loop-token : goal.decreases-loop-token
-decreases-loop-token l = length l.lexer.rest.now
+decreases-loop-token l = length l.at.rest.now
