@@ -1,7 +1,8 @@
 -- Plain rows are those of their postings.
 use Rattle.std.proofs.Common.{◌≡◌, ℕ, pos, ◌*ℤ◌, ◌^◌, Some, sym, ◌∙◌}
 use Rattle.bean_interp.proofs.CountFacts.{scaled_16}
-use Rattle.bean_interp.specs.Weight.{at_8, count_of, currency_of}
+use Rattle.bean_base.specs.Counts.{at_8}
+use Rattle.bean_interp.specs.Weight.{count_of, currency_of}
 use Rattle.bean_postings.specs.declared.posting.Posting.{Posting}
 use Rattle.bean_transactions.specs.Tried.{worth_of}
 use Rattle.bean_holdings.specs.declared.posted.Posted.{Posted}

@@ -22,7 +22,8 @@ use Rattle.bean_postings.specs.declared.price.Price as prices
 use Rattle.bean_postings.specs.declared.price.Price.TheVariants as price
 use Rattle.bean_directives.specs.declared.transaction.Transaction.{Transaction}
 use Rattle.bean_interp.specs.Residual.{IsLight}
-use Rattle.bean_interp.specs.Weight.{at_8, count_of, currency_of}
+use Rattle.bean_base.specs.Counts.{at_8}
+use Rattle.bean_interp.specs.Weight.{count_of, currency_of}
 use Rattle.bean_interp.specs.declared.leg.Leg.TheVariants as leg
 use Rattle.bean_lots.specs.declared.lot.Lot.{Lot}
 use Rattle.bean_pad.specs.declared.note.NotedPad.{NotedPad}

@@ -12,7 +12,8 @@ use Rattle.bean_postings.specs.declared.price.Price as prices
 use Rattle.bean_postings.specs.declared.price.Price.TheVariants.{PerUnit}
 use Rattle.bean_postings.specs.declared.posting.Units.{Units}
 use Rattle.bean_postings.specs.declared.posting.Units.TheVariants as units
-use Rattle.bean_interp.specs.Weight.{at_8, currency_of, weight_of}
+use Rattle.bean_base.specs.Counts.{at_8}
+use Rattle.bean_interp.specs.Weight.{currency_of, weight_of}
 use Rattle.bean_interp.specs.declared.leg.Whole.{Whole}
 use Rattle.bean_lots.specs.declared.lot.Position.{Position}
 use Rattle.bean_pad.specs.declared.note.Note.{Note}

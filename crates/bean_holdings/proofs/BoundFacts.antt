@@ -20,7 +20,8 @@ use Rattle.bean_reductions.proofs.AfterFacts.{count_small}
 use Rattle.std.specs.List.{AllByRecursion}
 use Rattle.bean_holdings.proofs.HeldFacts.{with_lot}
 use Rattle.bean_holdings.proofs.RestFacts.{own_counts}
-use Rattle.bean_holdings.specs.Held.{at_8, key_of}
+use Rattle.bean_base.specs.Counts.{at_8}
+use Rattle.bean_holdings.specs.Held.{key_of}
 use Rattle.bean_holdings.specs.Holdings.{IsBounded, holding}
 use Rattle.bean_holdings.specs.Parts.{AreParts, IsPart}
 use Rattle.bean_holdings.specs.declared.holdings.Holdings.{Holdings}

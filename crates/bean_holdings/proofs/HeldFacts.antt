@@ -9,7 +9,8 @@ use Rattle.std.proofs.lemmas.List.Elements.{filter-append}
 use Rattle.bean_lots.specs.Inventory.{IsInventory, added}
 use Rattle.bean_lots.specs.declared.lot.Position.{Position}
 use Rattle.bean_lots.proofs.InventoryFacts.{kept}
-use Rattle.bean_holdings.specs.Held.{at_8, key_of, is_on, sum_of, held, lots_in}
+use Rattle.bean_base.specs.Counts.{at_8}
+use Rattle.bean_holdings.specs.Held.{key_of, is_on, sum_of, held, lots_in}
 use Rattle.bean_holdings.specs.Holdings.{AreHeld, holding}
 use Rattle.bean_holdings.specs.declared.holdings.Holdings.{Holdings}
 use Rattle.bean_holdings.specs.declared.posted.Posted.{Posted}

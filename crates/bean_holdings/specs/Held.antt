@@ -2,15 +2,11 @@
 use Rattle.std.specs.Prelude.{ℕ, ℤ, Bool, List, [], fold, filter}
 use Rattle.std.specs.Option.{is_some}
 use Rattle.std.specs.Str.{bytes_eq}
-use Rattle.bean_base.specs.Decimal.{scaled}
-use Rattle.bean_base.specs.declared.num.Num.{Num}
+use Rattle.bean_base.specs.Counts.{at_8}
 use Rattle.bean_lots.specs.Inventory.{added}
 use Rattle.bean_lots.specs.declared.lot.Key.{Key}
 use Rattle.bean_lots.specs.declared.lot.Position.{Position}
 use Rattle.bean_holdings.specs.declared.posted.Posted.{Posted}
-
-abbrev pub at_8 : Num → ℤ
-at_8 n = scaled n.count n.places 8
 
 abbrev pub key_of : Posted → Key
 key_of p = record { currency = p.units.currency; lot = p.lot }

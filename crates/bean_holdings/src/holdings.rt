@@ -4,7 +4,8 @@ ghost use Rattle.std.specs.Prelude.{◌&&◌, if◌then◌else◌};
 ghost use Rattle.std.specs.Option.{is_some};
 ghost use Rattle.std.specs.Str.{bytes_eq};
 ghost use Rattle.bean_lots.specs.Inventory.{added};
-ghost use Rattle.bean_holdings.specs.Held.{at_8, key_of};
+ghost use Rattle.bean_base.specs.Counts.{at_8};
+ghost use Rattle.bean_holdings.specs.Held.{key_of};
 ghost use Rattle.bean_holdings.specs.Holdings.{AreHeld, IsBounded, additions_in, holding};
 ghost use Rattle.bean_holdings.specs.declared.posted.Posted as spec;
 

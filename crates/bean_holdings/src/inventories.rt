@@ -6,7 +6,8 @@ ghost use Rattle.std.specs.Int.RustNames.{FitsSigned};
 ghost use Rattle.std.specs.Map.{keys_of};
 ghost use Rattle.std.specs.Str.{bytes_eq};
 ghost use Rattle.bean_lots.specs.Inventory.{added, count_of};
-ghost use Rattle.bean_holdings.specs.Held.{at_8, key_of};
+ghost use Rattle.bean_base.specs.Counts.{at_8};
+ghost use Rattle.bean_holdings.specs.Held.{key_of};
 ghost use Rattle.bean_holdings.specs.Inventories.{inventory_in};
 
 use crate::known::Known;

@@ -9,7 +9,7 @@ use Rattle.std.specs.Int.RustNames.{unsigned_abs}
 use Rattle.bean_base.proofs.PowerFacts.{product_lt}
 use Rattle.bean_base.specs.Decimal.{IsLedger, scaled}
 use Rattle.bean_base.specs.declared.num.Num.{Num}
-use Rattle.bean_interp.specs.Weight.{at_16}
+use Rattle.bean_base.specs.Counts.{at_16}
 use Rattle.bean_interp.proofs.CountFacts.{scaled_16}
 
 -- every number of a ledger is below 10^12

@@ -4,7 +4,8 @@ use Rattle.std.specs.Int.RustNames.{unsigned_abs}
 use Rattle.bean_base.specs.declared.amounts.Amount.{Amount}
 use Rattle.bean_interp.specs.Residual.{Weighed}
 use Rattle.bean_interp.specs.Sums.{Fits, IsNarrow, added, entry_of, sum_with, with_leg}
-use Rattle.bean_interp.specs.Weight.{IsOfUnits, at_16, count_of, currency_of, weight_of}
+use Rattle.bean_base.specs.Counts.{at_16}
+use Rattle.bean_interp.specs.Weight.{IsOfUnits, count_of, currency_of, weight_of}
 use Rattle.bean_interp.specs.declared.leg.Leg.TheVariants as leg
 use Rattle.bean_interp.specs.declared.leg.Whole.{Whole}
 use Rattle.bean_interp.specs.declared.weight.Weight.{Weight}

@@ -3,7 +3,7 @@ use Rattle.std.specs.Prelude.{◌≡◌, ◌-◌, ◌*ℤ◌, ◌^◌, ℕ, ℤ,
 use Rattle.std.specs.Prelude.{Err}
 use Rattle.bean_base.specs.Decimal.{rounded}
 use Rattle.bean_base.specs.declared.num.Num.{Num}
-use Rattle.bean_interp.specs.Weight.{at_16}
+use Rattle.bean_base.specs.Counts.{at_16}
 use Rattle.bean_interp.specs.declared.weight.TooWide.{TooWide}
 
 -- a count of 10^-16 rounded to so many decimals

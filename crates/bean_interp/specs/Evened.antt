@@ -6,7 +6,7 @@ use Rattle.bean_interp.specs.Completion.{AreFills}
 use Rattle.bean_interp.specs.Lacking.{lack_too_much}
 use Rattle.bean_interp.specs.Residual.{Weighed, sum_in, weighed}
 use Rattle.bean_interp.specs.Tolerance.{tolerance}
-use Rattle.bean_interp.specs.Weight.{at_16}
+use Rattle.bean_base.specs.Counts.{at_16}
 use Rattle.bean_interp.specs.declared.fill.Fill.{Fill}
 use Rattle.bean_interp.specs.declared.leg.Leg.{Leg}
 

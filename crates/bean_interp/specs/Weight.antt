@@ -3,22 +3,13 @@ use Rattle.std.specs.Prelude.{◌≡◌, ◌*ℤ◌, ◌≤◌, ◌^◌, ℕ, �
 use Rattle.std.specs.Prelude.{if◌then◌else◌}
 use Rattle.std.specs.Int.RustNames.{unsigned_abs}
 use Rattle.std.specs.Int.Signed.{lt_z}
-use Rattle.bean_base.specs.Decimal.{scaled}
+use Rattle.bean_base.specs.Counts.{at_8, at_16}
 use Rattle.bean_base.specs.declared.amounts.Amount.{Amount}
-use Rattle.bean_base.specs.declared.num.Num.{Num}
 use Rattle.bean_interp.specs.declared.leg.Whole.{Whole}
 use Rattle.bean_interp.specs.declared.leg.Worth.{Worth}
 use Rattle.bean_interp.specs.declared.leg.Worth.TheVariants.{Units, Cost, PerUnit, Total}
 use Rattle.bean_interp.specs.declared.weight.TooWide.{TooWide}
 use Rattle.bean_interp.specs.declared.weight.Weight.{Weight}
-
--- a number in counts of 10^-8
-abbrev pub at_8 : Num → ℤ
-at_8 n = scaled n.count n.places 8
-
--- a number in counts of 10^-16
-abbrev pub at_16 : Num → ℤ
-at_16 n = scaled n.count n.places 16
 
 -- the count with the sign of z, 0 for 0
 abbrev pub with_sign_of : ℤ → ℤ → ℤ

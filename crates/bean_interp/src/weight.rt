@@ -43,7 +43,7 @@ fn product(a: i128, b: i128) -> Option<i128>
 }
 
 impl<'a> Weight<'a> {
-    ghost use Rattle.bean_interp.specs.Weight.{at_16};
+    ghost use Rattle.bean_base.specs.Counts.{at_16};
 
     /// What units weigh that are worth themselves.
     pub(crate) fn of_units(units: &Amount<'a>) -> Weight<'a>

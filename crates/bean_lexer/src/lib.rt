@@ -46,6 +46,7 @@ pub mod token_at;
 mod token_list;
 mod words;
 
+pub use classes::Space;
 pub use digits::day_or_number;
 pub use found::{Counted, Found, on_one_line};
 pub use gaps::{Lead, Spot, gap_at};

@@ -8,7 +8,8 @@ use Rattle.std.proofs.lemmas.List.{append-nil, reverse-append}
 use Rattle.std.proofs.lemmas.Int.{ints}
 use Rattle.bean_base.specs.declared.fault.FaultKind.TheVariants.{BalanceFails}
 use Rattle.bean_pad.specs.Checking.{found_at}
-use Rattle.bean_pad.specs.Held.{Units, at_8, held, is_of, total, units_of, written}
+use Rattle.bean_base.specs.Counts.{at_8}
+use Rattle.bean_pad.specs.Held.{Units, held, is_of, total, units_of, written}
 use Rattle.bean_pad.specs.Note.{pads_in}
 use Rattle.bean_pad.specs.Standing.{all_inserted, failing, fault_at, inserted, inserted_at}
 use Rattle.bean_pad.specs.Standing.{standing, units}

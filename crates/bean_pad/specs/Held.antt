@@ -3,9 +3,8 @@ use Rattle.std.specs.Prelude.{ℕ, suc, ℤ, pos, ◌+ℤ◌, ◌&&◌, ◌||◌
 use Rattle.std.specs.Prelude.{length, take}
 use Rattle.std.specs.Str.{bytes_eq}
 use Rattle.bean_base.specs.Character.{colon}
-use Rattle.bean_base.specs.Decimal.{scaled}
+use Rattle.bean_base.specs.Counts.{at_8}
 use Rattle.bean_base.specs.declared.amounts.Amount.{Amount}
-use Rattle.bean_base.specs.declared.num.Num.{Num}
 use Rattle.bean_pad.specs.declared.step.Step.{Step}
 use Rattle.bean_pad.specs.declared.step.Step.TheVariants as step
 
@@ -14,10 +13,6 @@ pub record Units : Type 0 where
   pub account : List ℕ
   pub currency : List ℕ
   pub count : ℤ
-
--- a number as a count of 10^-8
-abbrev pub at_8 : Num → ℤ
-at_8 n = scaled n.count n.places 8
 
 -- what a posting adds
 abbrev pub units_of : List ℕ → Amount → Units

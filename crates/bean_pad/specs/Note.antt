@@ -3,7 +3,8 @@
 use Rattle.std.specs.Prelude.{ℕ, zero, suc, ◌<◌, ℤ, pos, ◌+ℤ◌, ◌-ℤ◌, ◌&&◌, Bool, List, [], ◌∷◌}
 use Rattle.std.specs.Prelude.{◌++◌, Option, None, Some, if◌then◌else◌}
 use Rattle.std.specs.Str.{bytes_eq}
-use Rattle.bean_pad.specs.Held.{at_8, held, written}
+use Rattle.bean_base.specs.Counts.{at_8}
+use Rattle.bean_pad.specs.Held.{held, written}
 use Rattle.bean_pad.specs.Outcome as outcomes
 use Rattle.bean_pad.specs.Outcome.{outcome_of}
 use Rattle.bean_pad.specs.Tolerance.{is_out, tolerance_of}

@@ -4,7 +4,7 @@ use Rattle.std.specs.Int.RustNames.{unsigned_abs}
 use Rattle.std.proofs.Common.{arith}
 use Rattle.std.proofs.lemmas.Grind.{common_steps}
 use Rattle.bean_base.specs.Decimal.{IsLedger}
-use Rattle.bean_pad.specs.Held.{at_8}
+use Rattle.bean_base.specs.Counts.{at_8}
 use Rattle.bean_pad.specs.declared.note.Outcome.{Outcome}
 use Rattle.bean_pad.specs.declared.note.Outcome.TheVariants.{Padding, AtCost, TooWide}
 

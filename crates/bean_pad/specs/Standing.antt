@@ -7,7 +7,8 @@ use Rattle.bean_base.specs.declared.fault.FaultKind.{FaultKind}
 use Rattle.bean_base.specs.declared.fault.FaultKind.TheVariants.{TooWide, BalanceFails, UnusedPad}
 use Rattle.bean_base.specs.declared.fault.FaultKind.TheVariants.{PadAtCost}
 use Rattle.bean_base.specs.declared.span.Place.{Place}
-use Rattle.bean_pad.specs.Held.{Units, at_8, held, units_of}
+use Rattle.bean_base.specs.Counts.{at_8}
+use Rattle.bean_pad.specs.Held.{Units, held, units_of}
 use Rattle.bean_pad.specs.Note.{pads_in}
 use Rattle.bean_pad.specs.Tolerance.{is_out, tolerance_of}
 use Rattle.bean_pad.specs.declared.note.Note.{Note}

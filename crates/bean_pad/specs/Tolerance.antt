@@ -3,7 +3,7 @@ use Rattle.std.specs.Prelude.{ℤ, pos, neg_ℤ, ◌-◌, ◌^◌, ◌==◌, ◌
 use Rattle.std.specs.Prelude.{if◌then◌else◌}
 use Rattle.std.specs.Int.Signed.{lt_z}
 use Rattle.bean_base.specs.declared.num.Num.{Num}
-use Rattle.bean_pad.specs.Held.{at_8}
+use Rattle.bean_base.specs.Counts.{at_8}
 use Rattle.bean_directives.specs.declared.numbers.Balance.{Balance}
 
 -- a unit in the number's last decimal; 0 where it is whole

@@ -7,7 +7,8 @@ use Rattle.std.specs.List.{AllByRecursion}
 use Rattle.bean_base.specs.declared.fault.Fault.{Fault}
 use Rattle.bean_base.specs.declared.fault.FaultKind.TheVariants.{BalanceFails}
 use Rattle.bean_base.specs.declared.span.Place.{Place}
-use Rattle.bean_pad.specs.Held.{Units, at_8, held, written}
+use Rattle.bean_base.specs.Counts.{at_8}
+use Rattle.bean_pad.specs.Held.{Units, held, written}
 use Rattle.bean_pad.specs.Standing.{fault_at, inserted_at}
 use Rattle.bean_pad.specs.Tolerance.{is_out, tolerance_of}
 use Rattle.bean_pad.specs.declared.check.Check.{Check}

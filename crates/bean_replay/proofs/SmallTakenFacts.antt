@@ -21,7 +21,8 @@ use Rattle.bean_reductions.specs.declared.reduction.Method.TheVariants as method
 use Rattle.bean_reductions.specs.declared.reduction.Selector.{Selector}
 use Rattle.bean_reductions.proofs.InTurn.{TakesInTurn}
 use Rattle.bean_reductions.proofs.TakeFacts.{to_takes}
-use Rattle.bean_holdings.specs.Held.{at_8, held, is_on, key_of}
+use Rattle.bean_base.specs.Counts.{at_8}
+use Rattle.bean_holdings.specs.Held.{held, is_on, key_of}
 use Rattle.bean_transactions.specs.Held.{left, takes_in}
 use Rattle.bean_transactions.specs.declared.line.Line.{Line}
 use Rattle.bean_holdings.specs.declared.posted.Posted.{Posted}

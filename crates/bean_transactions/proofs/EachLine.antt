@@ -32,7 +32,7 @@ use Rattle.bean_postings.specs.declared.posting.Units as units_declared
 use Rattle.bean_postings.specs.declared.posting.Units.TheVariants.{Missing, Currency, Amount}
 use Rattle.bean_postings.specs.declared.posting.Units.TheVariants.{NumberAlone}
 use Rattle.bean_postings.specs.declared.price.Price as prices
-use Rattle.bean_holdings.specs.Held.{at_8}
+use Rattle.bean_base.specs.Counts.{at_8}
 use Rattle.bean_transactions.specs.Held.{left}
 use Rattle.bean_transactions.specs.Lined.{AreTakeLines, IsAugmented, IsCostIn, IsInBraces, IsLinedByCost}
 use Rattle.bean_transactions.specs.Lined.{IsLinedByUnits, IsNext, IsReduced, IsReducedBy, IsTakeLine}

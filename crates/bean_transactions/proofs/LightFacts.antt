@@ -33,7 +33,7 @@ use Rattle.bean_reductions.specs.Take.{signed_takes}
 use Rattle.bean_lots.specs.declared.lot.Lot.{Lot}
 use Rattle.bean_lots.specs.declared.lot.Position.{Position}
 use Rattle.bean_reductions.specs.declared.reduction.Method.{Method}
-use Rattle.bean_holdings.specs.Held.{at_8}
+use Rattle.bean_base.specs.Counts.{at_8}
 use Rattle.bean_transactions.specs.Held.{left}
 use Rattle.bean_transactions.specs.Lined.{AreLined, AreTakeLines, IsAugmented, IsLinedByCost}
 use Rattle.bean_transactions.specs.Lined.{IsLinedByUnits}

@@ -19,7 +19,8 @@ use Rattle.bean_reductions.specs.After.{after}
 use Rattle.bean_lots.specs.declared.lot.Position.{Position}
 use Rattle.bean_reductions.specs.declared.reduction.Method.{Method}
 use Rattle.bean_transactions.specs.declared.stop.LineFault.{LineFault}
-use Rattle.bean_holdings.specs.Held.{at_8, held, lots_in}
+use Rattle.bean_base.specs.Counts.{at_8}
+use Rattle.bean_holdings.specs.Held.{held, lots_in}
 use Rattle.bean_holdings.proofs.LotFacts.{candidates_among_lots, lots_after, opposite_among_lots}
 use Rattle.bean_transactions.specs.Held.{left, takes_in}
 use Rattle.bean_holdings.specs.Holdings.{holding}

@@ -22,7 +22,7 @@ use Rattle.bean_lots.specs.declared.lot.Lot.{Lot}
 use Rattle.bean_lots.specs.declared.lot.Position.{Position}
 use Rattle.bean_reductions.specs.declared.reduction.Method.{Method}
 use Rattle.bean_reductions.specs.declared.reduction.Selector.{Selector}
-use Rattle.bean_holdings.specs.Held.{at_8}
+use Rattle.bean_base.specs.Counts.{at_8}
 use Rattle.bean_transactions.specs.Lined.{AreTakeLines, IsAugmented, IsCostIn, IsInBraces, IsLinedByCost}
 use Rattle.bean_transactions.specs.Lined.{IsLinedByUnits, IsLotOf, IsReduced, IsReducedBy, IsSelector}
 use Rattle.bean_transactions.specs.Lined.{IsTakeOf, IsWhy, is_reduction}

@@ -10,7 +10,8 @@ use Rattle.std.proofs.lemmas.List.{append-nil, take_all}
 use Rattle.std.proofs.lemmas.Slice.Eq.{bytes_eq-Decides}
 use Rattle.bean_base.specs.Decimal.{scaled}
 use Rattle.bean_base.specs.declared.amounts.Amount as amounts
-use Rattle.bean_holdings.specs.Held.{at_8, held, is_on, key_of}
+use Rattle.bean_base.specs.Counts.{at_8}
+use Rattle.bean_holdings.specs.Held.{held, is_on, key_of}
 use Rattle.bean_holdings.specs.Holdings.{IsBounded, additions_in, holding}
 use Rattle.bean_holdings.specs.Parts.{AreParts, IsPart}
 use Rattle.bean_holdings.specs.declared.holdings.Holdings.{Holdings}

@@ -24,7 +24,7 @@ use Rattle.bean_lots.specs.declared.lot.Position.{Position}
 use Rattle.bean_reductions.specs.declared.reduction.Method.{Method}
 use Rattle.bean_reductions.specs.declared.reduction.Method.TheVariants as method
 use Rattle.bean_reductions.specs.declared.reduction.Selector.{Selector}
-use Rattle.bean_holdings.specs.Held.{at_8}
+use Rattle.bean_base.specs.Counts.{at_8}
 use Rattle.bean_transactions.specs.Held.{left}
 use Rattle.bean_transactions.specs.declared.line.Line.{Line}
 use Rattle.bean_transactions.specs.declared.line.Line.TheVariants as line

@@ -4,7 +4,7 @@ ghost use Rattle.bean_postings.specs.Posting.{is_outside_profile};
 ghost use Rattle.bean_reductions.specs.Reduction.{Reduces};
 ghost use Rattle.bean_reductions.specs.Take.{take_counts};
 ghost use Rattle.bean_lots.specs.declared.lot.Lot.{Lot};
-ghost use Rattle.bean_holdings.specs.Held.{at_8};
+ghost use Rattle.bean_base.specs.Counts.{at_8};
 ghost use Rattle.bean_transactions.specs.Lined as spec;
 ghost use Rattle.bean_transactions.specs.Lined.{IsAugmented, IsInBraces, IsLinedByCost, IsLinedByUnits};
 ghost use Rattle.bean_transactions.specs.Lined.{AreTakeLines, IsLotOf, IsReduced, IsSelector};

@@ -10,13 +10,10 @@ ghost use Rattle.cell_texts.specs.CellText.{entry_text, label_text, lot_text, po
 
 use crate::cells::{Scratch, add_clean, push_amount, push_units, units_width, width_of};
 use bean_base::{Currency, Day, Text};
-use bean_lots::{Key, Lot};
+use bean_lots::{COUNT_PLACES, Key, Lot};
 use number_texts::push_day;
 use posting_table::Display;
 use std::alloc::AllocError;
-
-/// The decimals of the counts of positions and costs.
-const COUNT_PLACES: u8 = 8;
 
 /// Adds printable ASCII characters.
 fn add_printable(clean: &mut String, bytes: &[u8]) -> Result<(), AllocError>

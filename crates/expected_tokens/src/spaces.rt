@@ -1,23 +1,11 @@
 //! Gaps that most tokens have before them.
 ghost use Rattle.std.specs.Prelude.{◌≡◌, ◌<◌, length, IfSome};
-ghost use Rattle.bean_lexer.specs.Gap.{is_space};
 ghost use Rattle.bean_lexer.specs.InGap.{IsLead};
 ghost use Rattle.bean_lexer.specs.declared.gaps.Spot.TheVariants as spot;
 ghost use Rattle.bean_lexer.specs.declared.kind.Place.TheVariants as place;
 
-use bean_lexer::{Lead, Place, begins_token};
-use byte_runs::{ByteClass, end_of_run};
-
-/// The space.
-struct Space;
-
-impl ByteClass for Space {
-    ghost holds = { is_space };
-
-    fn has(b: u8) -> bool {
-        b == b' '
-    }
-}
+use bean_lexer::{Lead, Place, Space, begins_token};
+use byte_runs::end_of_run;
 
 /// The gap behind a token, if it is spaces, or nothing, up to a token of the same line.
 #[inline(always)]

@@ -1,5 +1,5 @@
-//! What is limited, told once: of ledgers, of queries and of programs; and what a query takes for
-//! granted of the ledgers that it runs on, its [`Bounds`].
+//! What is limited of ledgers, of queries and of programs; and what a query takes for granted of the
+//! ledgers that it runs on, its [`Bounds`].
 //!
 //! ```text
 //! let widest = Bounds {

@@ -13,12 +13,9 @@ ghost use Rattle.query_values.specs.declared.value.Value.TheVariants.{Amount};
 use crate::component::{leaf_of, parent_of, rank_of_root, root_of};
 use crate::value::Value;
 use bean_base::Slice;
-use bean_lots::Key;
+use bean_lots::{COUNT_PLACES, Key};
 use query_holdings::{BagKey, Lent};
 use std::alloc::{AllocError, Global};
-
-/// The decimals of the counts of positions and costs.
-const COUNT_PLACES: u8 = 8;
 
 /// The decimals of a cost.
 const COST_PLACES: u8 = 16;

@@ -3,7 +3,7 @@ use Rattle.std.proofs.Common.{of_z}
 use Rattle.std.specs.Int.{w128}
 use Rattle.std.specs.Int.RustNames.{unsigned_abs}
 use Rattle.std.proofs.lemmas.Int.{ints}
-use Rattle.bean_pad.specs.Held.{at_8}
+use Rattle.bean_base.specs.Counts.{at_8}
 use Rattle.bean_pad.specs.Standing.{units}
 use Rattle.bean_pad.specs.Sums.{Holds}
 use Rattle.bean_pad.proofs.check.insert_both.Goals as goal

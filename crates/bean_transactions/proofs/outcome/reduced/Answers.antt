@@ -1,6 +1,6 @@
 use Rattle.std.proofs.Common.{subst}
 use Rattle.bean_reductions.specs.Candidate.{candidates}
-use Rattle.bean_holdings.specs.Held.{at_8}
+use Rattle.bean_base.specs.Counts.{at_8}
 use Rattle.bean_transactions.specs.Lined.{IsReduced, IsReducedBy}
 use Rattle.bean_transactions.specs.Outcome.{StopsWith}
 use Rattle.bean_transactions.specs.Stock.{rest_of}

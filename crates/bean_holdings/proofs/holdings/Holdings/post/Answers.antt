@@ -2,7 +2,8 @@ use Rattle.std.proofs.Common.{◌≡◌, ◌∙◌, true, false, refl, rules}
 use Rattle.std.specs.Option.{is_some}
 use Rattle.std.proofs.lemmas.Result.{on_ok_weaker}
 use Rattle.bean_reductions.proofs.AfterFacts.{count_small}
-use Rattle.bean_holdings.specs.Held.{at_8, key_of}
+use Rattle.bean_base.specs.Counts.{at_8}
+use Rattle.bean_holdings.specs.Held.{key_of}
 use Rattle.bean_holdings.specs.Holdings.{holding}
 use Rattle.bean_holdings.proofs.BoundFacts.{at_8_small, one_posting_more, sum_fits}
 use Rattle.bean_holdings.proofs.HeldFacts.{lot_more, no_lot_more, one_more}

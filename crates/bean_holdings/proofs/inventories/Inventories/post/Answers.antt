@@ -5,7 +5,8 @@ use Rattle.std.specs.Str.{bytes_eq}
 use Rattle.std.proofs.lemmas.Int.{ints}
 use Rattle.indexmap.proofs.MapLemmas.{OnOk-map}
 use Rattle.bean_lots.specs.Inventory.{added, count_of}
-use Rattle.bean_holdings.specs.Held.{at_8, key_of}
+use Rattle.bean_base.specs.Counts.{at_8}
+use Rattle.bean_holdings.specs.Held.{key_of}
 use Rattle.bean_holdings.specs.Inventories.{inventory_in}
 use Rattle.bean_holdings.proofs.inventories.Inventories.post.Goals as goal
 

@@ -8,7 +8,8 @@ use Rattle.bean_lots.specs.Inventory.{added, count_of}
 use Rattle.bean_reductions.specs.Rest.{HasAllLeft}
 use Rattle.bean_reductions.proofs.AfterFacts.{count_small}
 use Rattle.bean_reductions.proofs.AfterFacts as after_facts
-use Rattle.bean_holdings.specs.Held.{at_8, key_of}
+use Rattle.bean_base.specs.Counts.{at_8}
+use Rattle.bean_holdings.specs.Held.{key_of}
 use Rattle.bean_transactions.specs.Held.{takes_in}
 use Rattle.bean_holdings.specs.LotsLeft.{AreLeft}
 use Rattle.bean_holdings.specs.Rests.{rest_in}
