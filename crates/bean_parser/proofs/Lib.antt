@@ -1,9 +1,11 @@
 pub mod TakingFacts
 pub mod LineFacts
 pub mod LinesFacts
-pub mod PlainLinesFacts
-pub mod PlainBlockFacts
 pub mod BlockFacts
+pub mod UnderFacts
+pub mod SaidFacts
+pub mod KeptFacts
+pub mod PlainBlockFacts
 pub mod GatheredFacts
 pub mod WaitingFacts
 pub mod ParsedFacts

@@ -1,11 +1,16 @@
 -- The lines under a first one, one after the other.
-use Rattle.std.proofs.Common.{◌≡◌, Bool, List, [], ◌∷◌, ◌++◌, Option, Some, None, map, refl, sym}
+use Rattle.std.proofs.Common.{◌≡◌, ℕ, Bool, List, [], ◌∷◌, ◌++◌, Option, Some, None, map, refl, sym}
 use Rattle.std.proofs.Common.{◌∙◌, ap, subst, append_assoc}
 use Rattle.std.proofs.lemmas.List.{append-nil}
 use Rattle.theory.specs.Cut.{cut_before}
 use Rattle.bean_lexer.specs.declared.token.Token.{Token}
 use Rattle.bean_parser.specs.Block.{Line, line_of, lines, begins_line}
-use Rattle.bean_parser.specs.Reading.{ReadsLine, ReadsLines, InLines}
+use Rattle.bean_base.specs.declared.days.Day as days
+use Rattle.bean_grammar.specs.declared.ranged.Ranged.{Ranged}
+use Rattle.bean_directives.specs.declared.directive.DirectiveKind.{DirectiveKind}
+use Rattle.bean_parser.specs.Grammar.{dated, takes_postings}
+use Rattle.bean_parser.specs.Reading.{ReadsDated, ReadsLine, ReadsLines, InLines}
+use Rattle.bean_parser.specs.declared.statement.Statement.{Statement}
 use Rattle.bean_parser.specs.Under.{IsLine, AreLines, no_lines, with_line, with_lines}
 use Rattle.bean_parser.specs.declared.under.Body.{Body}
 use Rattle.bean_parser.specs.declared.under.LineKind.{LineKind}
@@ -83,3 +88,15 @@ pub no_kind : (in_transaction : Bool) (l : Line) (o : Option LineKind)
     → ReadsLine in_transaction l None
 no_kind in_transaction l None none r = r
 no_kind in_transaction l (Some k) none r = absurd (none k refl)
+
+-- what a head says with lines under it
+pub body_read :
+    (line : ℕ) (d : Ranged days.Day) (k : Ranged DirectiveKind) (ls : List Line) (b : Body)
+    (v : Ranged Statement) → ReadsLines (takes_postings k) ls (Some b) → v ≡ dated line d k b
+    → ReadsDated line d k ls (Some v)
+body_read line d k ls b v read is = (read.0, read.1, is ∙ ap (dated line d k) read.2)
+
+-- the same, where a test says whether lines stand under a transaction
+pub lines_read : (t s : Bool) (ls : List Line) (o : Option Body) → t ≡ s → ReadsLines t ls o
+    → ReadsLines s ls o
+lines_read t s ls o same read = subst (λ x. ReadsLines x ls o) same read

@@ -10,8 +10,8 @@ use Rattle.bean_parser.specs.declared.block.Outcome.TheVariants as outcome
 use Rattle.bean_parser.specs.declared.directives.Next.{Next}
 use Rattle.bean_parser.specs.declared.directives.Next.TheVariants as nexts
 use Rattle.bean_lexer.specs.declared.lexer.Lexer.{Lexer}
-use Rattle.bean_parser.specs.declared.reader.Taken.{Taken}
-use Rattle.bean_parser.specs.declared.reader.Taken.TheVariants as takens
+use Rattle.bean_parser.specs.declared.next.Taken.{Taken}
+use Rattle.bean_parser.specs.declared.next.Taken.TheVariants as takens
 use Rattle.bean_parser.specs.declared.statement.Statement.TheVariants as statements
 
 abbrev pub is_some : Taken → Bool

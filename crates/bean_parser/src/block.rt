@@ -1,5 +1,5 @@
 //! Blocks: what each gives.
-ghost use Rattle.std.specs.Prelude.{◌≡◌, ◌++◌, [], map, MatchOption, IfSome, IfOk};
+ghost use Rattle.std.specs.Prelude.{◌≡◌, ◌++◌, [], MatchOption, IfSome, IfOk};
 ghost use Rattle.std.specs.List.{list_all};
 ghost use Rattle.std.specs.Prelude as prelude;
 ghost use Rattle.bean_directives.specs.Given.{with_postings};
@@ -8,15 +8,14 @@ ghost use Rattle.bean_parser.specs.Block as spec;
 ghost use Rattle.bean_parser.specs.Grammar as rule;
 ghost use Rattle.bean_parser.specs.Outcome as outcomes;
 ghost use Rattle.bean_parser.specs.Outcome.{Gives};
-ghost use Rattle.bean_parser.specs.Reading.{InLines, ReadsBlock, ReadsDated, ReadsUndated};
-ghost use Rattle.bean_parser.specs.Under.{no_lines, said_posting, with_lines};
+ghost use Rattle.bean_parser.specs.Reading.{ReadsBlock, ReadsDated, ReadsUndated};
 ghost use Rattle.bean_parser.specs.declared.block.Outcome.TheVariants as outcome;
 ghost use Rattle.bean_parser.specs.declared.statement.Statement.TheVariants as statements;
 
 use crate::part::{Part, first_line, first_part};
 use crate::statement::Statement;
-use crate::under::{Body, all_postings, other_lines, own_lines, plain_lines};
-use bean_base::{Day, Fault, FaultKind, Few, List, Place};
+use crate::under::{Body, all_postings, lines_under};
+use bean_base::{Day, Fault, FaultKind, Place};
 use bean_directives::head::head;
 use bean_directives::undated::undated_line;
 use bean_directives::{Directive, DirectiveKind, Stretch, Transaction, Undated};
@@ -137,52 +136,6 @@ fn dated<'a>(
     }
 }
 
-/// What a head says with nothing but postings under it, where all of it is in range.
-fn plainly_dated<'a>(
-    line: u32,
-    day: Ranged<Day>,
-    kind: Ranged<DirectiveKind<'a>>,
-    postings: Stretch<WrittenPosting<'a>>,
-) -> Ranged<Statement<'a>>
-    ensures { result ≡ rule.dated line day kind.entry
-        (with_lines no_lines (map said_posting postings.entry)) }
-{
-    let Ranged::Within(day) = day else {
-        return Ranged::Outside;
-    };
-    let Ranged::Within(kind) = kind else {
-        return Ranged::Outside;
-    };
-    Ranged::Within(Statement::Directive(Directive {
-        day,
-        line,
-        metadata: Few::new(),
-        kind: with_postings(kind, postings),
-    }))
-}
-
-/// What a block says whose first line is a head, with lines under it of which those at the front
-/// say `front`. It stays a call of its own, since nearly all blocks are read without it.
-#[inline(never)]
-fn other_block<'a>(
-    alloc: Global,
-    line: u32,
-    day: Ranged<Day>,
-    kind: Ranged<DirectiveKind<'a>>,
-    front: Body<'a>,
-    others: &[Token<'a>],
-) -> Result<Option<Ranged<Statement<'a>>>, AllocError>
-    ensures { IfOk result (λ found. (ls : prelude.List spec.Line)
-        → InLines (rule.takes_postings kind.entry) ls (spec.lines others.now) front.entry
-        → ReadsDated line day kind.entry ls found) }
-{
-    match other_lines(alloc, takes_postings(&kind), front, others) {
-        Ok(Some(body)) => dated(alloc, line, day, kind, body),
-        Ok(None) => Ok(None),
-        Err(error) => Err(error),
-    }
-}
-
 /// What a block says whose first line is a head.
 fn dated_block<'a>(
     alloc: Global,
@@ -193,17 +146,11 @@ fn dated_block<'a>(
 ) -> Result<Option<Ranged<Statement<'a>>>, AllocError>
     ensures { IfOk result (ReadsDated line day kind.entry (spec.lines under.now)) }
 {
-    if !takes_postings(&kind) {
-        let front = Body::of_postings(alloc, Vec::new(alloc));
-        return other_block(alloc, line, day, kind, front, under);
+    match lines_under(alloc, takes_postings(&kind), under) {
+        Ok(Some(body)) => dated(alloc, line, day, kind, body),
+        Ok(None) => Ok(None),
+        Err(error) => Err(error),
     }
-    let (postings, others) = own_lines(alloc, under)?;
-    if others.is_empty() {
-        let postings = Stretch::of(alloc, List::new(postings))?;
-        return Ok(Some(plainly_dated(line, day, kind, postings)));
-    }
-    let front = Body::of_postings(alloc, postings);
-    other_block(alloc, line, day, kind, front, others)
 }
 
 /// What a block without a day says that begins with a line.

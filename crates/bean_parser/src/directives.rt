@@ -5,7 +5,7 @@ ghost use Rattle.bean_directives.specs.Given.{with_postings};
 ghost use Rattle.bean_parser.specs.Taken.{AddsPlain, found};
 ghost use Rattle.bean_parser.specs.Waiting.{IsWithin, completed};
 
-use crate::reader::{Taken, take_next};
+use crate::next::{Taken, take_next};
 use bean_directives::{ApartDirective, Directive, Stretch};
 use bean_lexer::{Lexer, Token};
 use bean_postings::WrittenPosting;
@@ -206,7 +206,7 @@ impl<'a> Directives<'a> {
             (λ next. found next ≡ true → length lexer.new.rest.now < length lexer.old.rest.now) }
     {
         let first = self.postings.len();
-        match take_next(lexer, block, &mut self.postings)? {
+        match take_next(alloc, lexer, block, &mut self.postings)? {
             Taken::Transaction(directive) => {
                 let end = self.postings.len();
                 let directive = ApartDirective::new(alloc, directive)?;

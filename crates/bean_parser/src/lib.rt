@@ -45,12 +45,14 @@ mod block;
 mod directives;
 mod grammar;
 pub mod includes;
+mod next;
 pub mod parse;
 mod part;
 mod plain;
 mod reader;
 mod sizes;
 mod statement;
+mod transaction;
 mod under;
 
 pub use bean_directives::{

@@ -1,26 +1,64 @@
 //! Plain transactions: a day, a sign and at most two texts, and under them lines that are an account, with a
 //! number and a currency or without. Nearly all blocks are such. Their postings are read as the lexer
 //! finds their tokens, which are kept nowhere.
-ghost use Rattle.std.specs.Prelude.{◌≡◌, ◌<◌, ◌≤◌, ◌++◌, [], List, IfOk, IfSome, IsTrue, MatchOption, length};
+ghost use Rattle.std.specs.Prelude.{◌≡◌, ◌<◌, ◌≤◌, [], ◌∷◌, ◌++◌, List, IfOk, IfSome, MatchOption, length};
+ghost use Rattle.bean_lexer.specs.ToCome.{EndsLines, ToCome};
 ghost use Rattle.bean_lexer.specs.declared.kind.Kind.TheVariants as kinds;
+ghost use Rattle.bean_lexer.specs.declared.kind.Place.TheVariants as places;
+ghost use Rattle.bean_lexer.specs.declared.token.Token.{Token};
+ghost use Rattle.bean_grammar.specs.Lexeme.{lexemes};
+ghost use Rattle.bean_grammar.specs.declared.ranged.Ranged.TheVariants.{Within};
 ghost use Rattle.bean_postings.specs.declared.posting.Posting.{Posting};
-ghost use Rattle.bean_parser.specs.Plain.{IsPlainHead, IsPostingBehind, TakesPostings};
+ghost use Rattle.bean_directives.specs.Head.{IsHead};
+ghost use Rattle.bean_directives.specs.declared.directive.DirectiveKind.TheVariants as directives;
+ghost use Rattle.bean_parser.specs.Plain.{IsPlainHead, IsPostingBehind, TakesPostings, TakesUnder};
+ghost use Rattle.bean_parser.specs.Under.{said_posting};
 
 use crate::block::{fault_line, is_in_column_one, kept_line};
 use crate::part::first_line;
-use bean_base::Few;
-use bean_directives::head::plain_head;
-use bean_directives::{Directive, DirectiveKind};
-use bean_lexer::{Lexer, Token};
+use bean_base::{Day, Few};
+use bean_directives::head::{head, plain_head};
+use bean_directives::{Directive, DirectiveKind, Transaction};
+use bean_grammar::Ranged;
+use bean_lexer::{Keyword, Kind, Lexer, Sign, Token};
 use bean_postings::WrittenPosting;
 use bean_postings::posting_line::plain_posting;
-use expected_tokens::{is_before_column_one, next_account, next_currency, next_minus, next_number};
-use std::alloc::AllocError;
+use expected_tokens::{
+    is_before_column_one, next_account, next_currency, next_minus, next_number,
+    next_past_column_one,
+};
+use std::alloc::{AllocError, Global};
 
-/// The directive that begins with a line, if that is the first line of a plain transaction. It has no
-/// postings.
+/// The transaction that a first line is which isn't plain. It stays a call of its own, since nearly all are.
+#[inline(never)]
+fn other_head<'a>(
+    alloc: Global,
+    line: &[Token<'a>],
+) -> Result<Option<(Day, Transaction<'a>)>, AllocError>
+    ensures { IfOk result (λ found. IfSome found (λ r. IsHead (lexemes line.now) (Within r.0)
+        (Within (directives.Transaction r.1)))) }
+{
+    match line.get(1) {
+        Some(
+            Token {
+                kind: Kind::Sign(Sign::Star | Sign::Bang) | Kind::Keyword(Keyword::Txn),
+                ..
+            },
+        ) => {}
+        _ => return Ok(None),
+    }
+    match head(alloc, line)? {
+        Some((Ranged::Within(day), Ranged::Within(kind))) => match kind.into_transaction() {
+            Ok(transaction) => Ok(Some((day, transaction))),
+            Err(_) => Ok(None),
+        },
+        _ => Ok(None),
+    }
+}
+
+/// The directive that begins with a line, if that is the first of a transaction. It has no postings.
 #[inline(always)]
-pub fn head_of<'a>(line: &[Token<'a>]) -> Result<Option<Directive<'a>>, AllocError>
+pub fn head_of<'a>(alloc: Global, line: &[Token<'a>]) -> Result<Option<Directive<'a>>, AllocError>
     ensures { IfOk result (λ found. IfSome found (IsPlainHead line.now)) }
 {
     if !is_in_column_one(line) {
@@ -31,7 +69,11 @@ pub fn head_of<'a>(line: &[Token<'a>]) -> Result<Option<Directive<'a>>, AllocErr
     }
     // What can fail comes first, so that no transaction that was read is given up for want of memory.
     let number = kept_line(first_line(line))?;
-    match plain_head(line) {
+    let found = match plain_head(line) {
+        Some(found) => Some(found),
+        None => other_head(alloc, line)?,
+    };
+    match found {
         Some((day, transaction)) => Ok(Some(Directive {
             day,
             line: number,
@@ -40,6 +82,13 @@ pub fn head_of<'a>(line: &[Token<'a>]) -> Result<Option<Directive<'a>>, AllocErr
         })),
         None => Ok(None),
     }
+}
+
+/// Whether a line ends where a lexer is, which it tells of nearly all that do.
+#[inline(always)]
+fn ends_line(lexer: &Lexer<'_>) -> bool {
+    let rest = lexer.rest.as_bytes();
+    rest.is_empty() || rest[0] == b'\n'
 }
 
 /// The posting of an account that begins its line, with the number and the currency behind it, or
@@ -54,59 +103,62 @@ fn posting_behind<'a>(account: Token<'a>, lexer: &mut Lexer<'a>) -> Option<Writt
     if let Some(minus) = next_minus(lexer) {
         let number = next_number(lexer)?;
         let currency = next_currency(lexer)?;
+        if !ends_line(lexer) {
+            return None;
+        }
         return plain_posting(line, &[account, minus, number, currency]);
     }
     match next_number(lexer) {
         Some(number) => {
             let currency = next_currency(lexer)?;
+            if !ends_line(lexer) {
+                return None;
+            }
             plain_posting(line, &[account, number, currency])
         }
-        None => plain_posting(line, &[account]),
+        None if ends_line(lexer) => plain_posting(line, &[account]),
+        None => None,
     }
 }
 
-/// Adds the postings that the next lines are, up to the next block, if each of them is plain, which it
-/// tells. It stays a call of its own, so that what a lexer keeps lies in registers.
+/// The next token, if it begins no block. It stays a call of its own, since nearly all lines are plain.
 #[inline(never)]
-fn take_postings<'a>(
-    lexer: &mut Lexer<'a>,
-    postings: &mut Vec<WrittenPosting<'a>>,
-) -> Result<bool, AllocError>
-    ensures { (ps : List Posting) × (postings.new.items ≡ postings.old.items ++ ps)
-        × IfOk result (λ plain. IsTrue plain → TakesPostings lexer.old lexer.new ps) }
+fn other_token<'a>(lexer: &mut Lexer<'a>) -> Option<Token<'a>>
+    ensures tokens { MatchOption result (EndsLines lexer.old × (lexer.new ≡ lexer.old))
+        (λ t. (ts : List Token) → ToCome lexer.new ts → ToCome lexer.old (t ∷ ts)) }
+    ensures shorter { IfSome result (λ _. length lexer.new.rest.now < length lexer.old.rest.now) }
 {
-    let mut at = *lexer;
-    while let Some(account) = next_account(&mut at) {
-        let Some(posting) = posting_behind(account, &mut at) else {
-            return Ok(false);
-        };
-        postings.push(posting)?;
-    }
-    *lexer = at;
-    Ok(is_before_column_one(&at))
+    next_past_column_one(lexer)
 }
 
-/// Takes the lines under a line, if that is the first of a plain transaction and each of them is a plain
-/// posting, which is added to others. Else nothing is taken.
+/// The posting that the next line is, if it is a plain one.
 #[inline(always)]
-pub fn take_transaction<'a>(
-    lexer: &mut Lexer<'a>,
-    line: &[Token<'a>],
-    postings: &mut Vec<WrittenPosting<'a>>,
-) -> Result<Option<Directive<'a>>, AllocError>
-    ensures { (ps : List Posting) × (postings.new.items ≡ postings.old.items ++ ps)
-        × IfOk result (λ found. MatchOption found ((ps ≡ []) × (lexer.new ≡ lexer.old))
-        (λ d. IsPlainHead line.now d × TakesPostings lexer.old lexer.new ps)) }
+fn next_posting<'a>(lexer: &mut Lexer<'a>) -> Option<WrittenPosting<'a>>
+    ensures posting { IfSome result (λ p. TakesUnder lexer.old lexer.new (said_posting p ∷ [])) }
+    ensures shorter { IfSome result (λ _. length lexer.new.rest.now < length lexer.old.rest.now) }
 {
-    let Some(directive) = head_of(line)? else {
-        return Ok(None);
-    };
-    let before = postings.len();
-    let mut under = *lexer;
-    if !take_postings(&mut under, postings)? {
-        postings.truncate(before);
+    let account = next_account(lexer)?;
+    posting_behind(account, lexer)
+}
+
+/// Adds the postings that the next lines are, as far as they are plain, and takes the token behind them, if
+/// that begins no block. It stays a call of its own, which nearly all blocks need but once.
+#[inline(never)]
+pub fn take_postings<'a>(
+    lexer: &mut Lexer<'a>,
+    postings: &mut Vec<WrittenPosting<'a>>,
+) -> Result<Option<Token<'a>>, AllocError>
+    ensures { (ps : List Posting) × (postings.new.items ≡ postings.old.items ++ ps)
+        × IfOk result (λ next. TakesPostings next ps lexer.old lexer.new) }
+{
+    // What a lexer keeps lies in registers while it goes on from token to token, and is told at the end of a line.
+    let mut at = *lexer;
+    while let Some(posting) = next_posting(&mut at) {
+        postings.push(posting)?;
+        *lexer = at;
+    }
+    if is_before_column_one(lexer) {
         return Ok(None);
     }
-    *lexer = under;
-    Ok(Some(directive))
+    Ok(other_token(lexer))
 }

@@ -3,52 +3,11 @@ ghost use Rattle.std.specs.Prelude.{◌≡◌, ◌++◌, ◌∷◌, [], List, �
 ghost use Rattle.std.specs.Prelude.{true, MatchOption, IfSome};
 ghost use Rattle.bean_lexer.specs.ToCome.{ToCome};
 ghost use Rattle.bean_lexer.specs.declared.token.Token.{Token};
-ghost use Rattle.bean_postings.specs.declared.posting.Posting.{Posting};
 ghost use Rattle.bean_parser.specs.Taking.{TakesBlock, TakesLine, TakesInside, TakesOthers};
-ghost use Rattle.bean_parser.specs.Taken.{Takes, is_some};
 
-use crate::plain::take_transaction;
-use bean_directives::Directive;
 use bean_lexer::{Lexer, Token};
-use bean_postings::WrittenPosting;
 use expected_tokens::{next_day, next_inside, next_past_column_one};
 use std::alloc::AllocError;
-
-/// What was taken of a text.
-#[derive(Drop)]
-pub enum Taken<'a> {
-    /// Nothing: no block is left.
-    Nothing,
-    /// A plain transaction, which is to be given its postings.
-    Transaction(Directive<'a>),
-    /// The tokens of a block.
-    Block,
-}
-
-/// Takes the next block off a lexer, if there is one. Of a transaction with a plain first line and nothing
-/// but plain postings under it the postings are added to others as they are read. Nearly all blocks are
-/// such, and no token of their postings is kept. `block` comes to hold the tokens of any other, in place
-/// of what it held.
-#[inline(always)]
-pub fn take_next<'a>(
-    lexer: &mut Lexer<'a>,
-    block: &mut Vec<Token<'a>>,
-    postings: &mut Vec<WrittenPosting<'a>>,
-) -> Result<Taken<'a>, AllocError>
-    ensures block { (ps : List Posting) × (postings.new.items ≡ postings.old.items ++ ps)
-        × IfOk result (λ taken. Takes taken ps lexer.old block.new.items lexer.new) }
-    ensures shorter { IfOk result (λ taken. is_some taken ≡ true
-        → length lexer.new.rest.now < length lexer.old.rest.now) }
-{
-    if !take_line(lexer, block)? {
-        return Ok(Taken::Nothing);
-    }
-    if let Some(directive) = take_transaction(lexer, block, postings)? {
-        return Ok(Taken::Transaction(directive));
-    }
-    take_others(lexer, block)?;
-    Ok(Taken::Block)
-}
 
 /// Fills `block` with the tokens of the next block, if there is one, in place of what it held.
 pub fn next_block<'a>(lexer: &mut Lexer<'a>, block: &mut Vec<Token<'a>>) -> Result<bool, AllocError>
@@ -65,7 +24,7 @@ pub fn next_block<'a>(lexer: &mut Lexer<'a>, block: &mut Vec<Token<'a>>) -> Resu
 
 /// Adds a token. Mostly there is room, since a block comes where others were.
 #[inline(always)]
-fn add_token<'a>(block: &mut Vec<Token<'a>>, token: Token<'a>) -> Result<(), AllocError>
+pub fn add_token<'a>(block: &mut Vec<Token<'a>>, token: Token<'a>) -> Result<(), AllocError>
     ensures { OnOk result (block.new.items ≡ block.old.items ++ token.entry ∷ []) }
 {
     if block.len() < block.capacity() {
@@ -102,7 +61,7 @@ fn first_token<'a>(lexer: &mut Lexer<'a>) -> Option<Token<'a>>
 /// Fills `block` with the next token, if there is one, and those behind it in its line, as far as spaces
 /// alone stand between them.
 #[inline(never)]
-fn take_line<'a>(lexer: &mut Lexer<'a>, block: &mut Vec<Token<'a>>) -> Result<bool, AllocError>
+pub fn take_line<'a>(lexer: &mut Lexer<'a>, block: &mut Vec<Token<'a>>) -> Result<bool, AllocError>
     ensures { IfOk result (λ some. TakesLine some lexer.old block.new.items lexer.new) }
 {
     block.clear();
@@ -116,7 +75,7 @@ fn take_line<'a>(lexer: &mut Lexer<'a>, block: &mut Vec<Token<'a>>) -> Result<bo
 
 /// Adds the tokens of a lexer that stand in the same line, as far as spaces alone stand between them.
 #[inline(always)]
-fn take_inside<'a>(lexer: &mut Lexer<'a>, block: &mut Vec<Token<'a>>) -> Result<(), AllocError>
+pub fn take_inside<'a>(lexer: &mut Lexer<'a>, block: &mut Vec<Token<'a>>) -> Result<(), AllocError>
     ensures { OnOk result (TakesInside lexer.old block.old.items lexer.new block.new.items) }
 {
     // What a lexer keeps lies in registers while it goes on from token to token.
@@ -130,7 +89,7 @@ fn take_inside<'a>(lexer: &mut Lexer<'a>, block: &mut Vec<Token<'a>>) -> Result<
 
 /// Adds the tokens of a lexer up to the next one that begins a block.
 #[inline(never)]
-fn take_others<'a>(lexer: &mut Lexer<'a>, block: &mut Vec<Token<'a>>) -> Result<(), AllocError>
+pub fn take_others<'a>(lexer: &mut Lexer<'a>, block: &mut Vec<Token<'a>>) -> Result<(), AllocError>
     ensures { OnOk result (TakesOthers lexer.old block.old.items lexer.new block.new.items) }
 {
     let mut at = *lexer;

@@ -1,15 +1,13 @@
 //! The lines under the first one of a directive.
-ghost use Rattle.std.specs.Prelude.{◌≡◌, ◌++◌, true, false, List, map, MatchOption, IfOk, OnOk};
+ghost use Rattle.std.specs.Prelude.{◌≡◌, true, false, MatchOption, IfOk, OnOk};
 ghost use Rattle.theory.specs.Form.{Is, IsNone};
 ghost use Rattle.bean_grammar.specs.Lexeme.{lexemes};
 ghost use Rattle.bean_grammar.specs.Lexeme as spec;
 ghost use Rattle.bean_grammar.specs.Mark as mark_spec;
 ghost use Rattle.bean_grammar.specs.Metadata as metadata;
-ghost use Rattle.bean_postings.specs.declared.posting.Posting.{Posting};
-ghost use Rattle.bean_parser.specs.Block.{Line, line_of, lines};
-ghost use Rattle.bean_parser.specs.Reading.{ReadsLines, ReadsLine, InLines};
+ghost use Rattle.bean_parser.specs.Block.{line_of, lines};
+ghost use Rattle.bean_parser.specs.Reading.{ReadsLines, ReadsLine};
 ghost use Rattle.bean_parser.specs.Under as rule;
-ghost use Rattle.bean_parser.specs.Under.{with_lines};
 
 use crate::part::{Part, first_line, first_part};
 use bean_base::{Few, List};
@@ -17,9 +15,9 @@ use bean_grammar::entry::entry;
 use bean_grammar::front::{after_key, after_link, after_tag, next};
 use bean_grammar::mark::line_of_marks;
 use bean_grammar::{Mark, MetaEntry, Ranged};
-use bean_lexer::{Kind, Token};
+use bean_lexer::Token;
 use bean_postings::WrittenPosting;
-use bean_postings::posting_line::{plain_posting, posting};
+use bean_postings::posting_line::posting;
 use std::alloc::{AllocError, Global};
 
 /// What a line says.
@@ -94,7 +92,7 @@ fn transaction_line<'a>(
 }
 
 /// What a line says, where it may stand there.
-fn line_kind<'a>(
+pub fn line_kind<'a>(
     alloc: Global,
     in_transaction: bool,
     line: &[Token<'a>],
@@ -114,17 +112,15 @@ fn line_kind<'a>(
 }
 
 impl<'a> Body<'a> {
-    /// What lines say of which no one says anything but postings.
-    pub(crate) fn of_postings(alloc: Global, postings: Vec<WrittenPosting<'a>>) -> Body<'a>
-        ensures { result ≡ with_lines rule.no_lines (map rule.said_posting postings.entry.items) }
+    /// What no lines say.
+    fn new(alloc: Global) -> Body<'a>
+        ensures { result ≡ rule.no_lines }
     {
-        let mut before = postings;
-        let last = before.pop();
         Body {
             metadata: Few::new(),
             marks: List::new(Vec::new(alloc)),
-            before: List::new(before),
-            last,
+            before: List::new(Vec::new(alloc)),
+            last: None,
             is_in_range: true,
         }
     }
@@ -165,17 +161,6 @@ impl<'a> Body<'a> {
     }
 }
 
-/// How many lines may be postings.
-fn most_postings(under: &[Token<'_>]) -> usize {
-    under
-        .iter()
-        .filter(|token| {
-            Part::Line.begins_at(token.place)
-                && !matches!(token.kind, Kind::Key | Kind::Tag | Kind::Link)
-        })
-        .count()
-}
-
 /// All postings.
 pub fn all_postings<'a>(
     before: List<WrittenPosting<'a>>,
@@ -190,56 +175,18 @@ pub fn all_postings<'a>(
     Ok(all)
 }
 
-/// Adds the postings that the lines at the front are, as far as each is a plain one, and gives what
-/// stands behind them. Nearly all lines are, and each of their postings is moved but once, to where
-/// it stays.
-pub fn plain_lines<'t, 'a>(
-    under: &'t [Token<'a>],
-    postings: &mut Vec<WrittenPosting<'a>>,
-) -> Result<&'t [Token<'a>], AllocError>
-    ensures { (ps : List Posting) × (postings.new.items ≡ postings.old.items ++ ps)
-        × IfOk result (λ rest. InLines true (lines under.now) (lines rest.now)
-        (with_lines rule.no_lines (map rule.said_posting ps))) }
-{
-    let mut rest = Unread { tokens: under };
-    while let Some((line, after)) = first_part(Part::Line, rest.tokens) {
-        let Some(posting) = plain_posting(first_line(line), line) else {
-            break;
-        };
-        postings.push(posting)?;
-        rest = Unread { tokens: after };
-    }
-    Ok(rest.tokens)
-}
-
-/// The same, in a list of their own.
-pub fn own_lines<'t, 'a>(
-    alloc: Global,
-    under: &'t [Token<'a>],
-) -> Result<(Vec<WrittenPosting<'a>>, &'t [Token<'a>]), AllocError>
-    ensures { IfOk result (λ r. InLines true (lines under.now) (lines r.1.now)
-        (with_lines rule.no_lines (map rule.said_posting r.0.items))) }
-{
-    let mut postings = Vec::with_capacity(alloc, most_postings(under))?;
-    let others = plain_lines(under, &mut postings)?;
-    Ok((postings, others))
-}
-
-/// What lines say of which those at the front say `front`, where each of the others is one that may
-/// stand there. It stays a call of its own, since few lines are read by it.
+/// What lines say, where each is one that may stand there. It stays a call of its own, since nearly all
+/// transactions are read without it.
 #[inline(never)]
-pub fn other_lines<'a>(
+pub fn lines_under<'a>(
     alloc: Global,
     in_transaction: bool,
-    front: Body<'a>,
-    others: &[Token<'a>],
+    under: &[Token<'a>],
 ) -> Result<Option<Body<'a>>, AllocError>
-    ensures { IfOk result (λ found. (ls : List Line)
-        → InLines in_transaction ls (lines others.now) front.entry
-        → ReadsLines in_transaction ls found) }
+    ensures { IfOk result (ReadsLines in_transaction (lines under.now)) }
 {
-    let mut body = front;
-    let mut rest = Unread { tokens: others };
+    let mut body = Body::new(alloc);
+    let mut rest = Unread { tokens: under };
     while let Some((line, after)) = first_part(Part::Line, rest.tokens) {
         let Some(kind) = line_kind(alloc, in_transaction, line)? else {
             return Ok(None);

@@ -14,9 +14,9 @@ returns-in-Some-clause-posting c =
     c.in_ok-currency.ensures.place c.in-Some.ensures.tokens c.in_ok-number.ensures.tokens
     c.in_ok-currency.ensures.tokens said)
 
-pub returns-in_ok-currency-in-Some-next_number-clause-posting :
-    goal.returns-in_ok-currency-in-Some-next_number-clause-posting
-returns-in_ok-currency-in-Some-next_number-clause-posting c =
+pub returns-else-not-ends_line-2-clause-posting :
+    goal.returns-else-not-ends_line-2-clause-posting
+returns-else-not-ends_line-2-clause-posting c =
     let before = c.in_default.ensures.tokens in
     let number = c.in-Some-next_number in
     let currency = c.in_ok-currency-in-Some-next_number in

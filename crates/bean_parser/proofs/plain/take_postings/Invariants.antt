@@ -1,12 +1,14 @@
-use Rattle.std.proofs.Common.{◌≡◌, ◌++◌, List, length}
+use Rattle.std.proofs.Common.{◌≡◌, ◌++◌, List, map}
 use Rattle.bean_postings.specs.declared.posting.Posting.{Posting}
-use Rattle.bean_parser.specs.Plain.{ReadsPostings}
+use Rattle.bean_parser.specs.Plain.{TakesUnder}
+use Rattle.bean_parser.specs.Taking.{left_of}
+use Rattle.bean_parser.specs.Under.{said_posting}
 use Rattle.bean_parser.proofs.plain.take_postings.Given as goal
 
-abbrev pub invariant-loop-account : goal.invariant-loop-account
-invariant-loop-account l =
+abbrev pub invariant-loop-posting : goal.invariant-loop-posting
+invariant-loop-posting l =
     (ps : List Posting) × (l.postings.items ≡ l.fn.postings.items ++ ps)
-    × ReadsPostings l.fn.lexer l.at ps
+    × TakesUnder l.fn.lexer l.lexer (map said_posting ps) × (l.at ≡ l.lexer)
 
-abbrev pub decreases-loop-account : goal.decreases-loop-account
-decreases-loop-account l = length l.at.rest.now
+abbrev pub decreases-loop-posting : goal.decreases-loop-posting
+decreases-loop-posting l = left_of l.at
