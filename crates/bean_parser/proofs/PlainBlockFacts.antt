@@ -24,7 +24,7 @@ use Rattle.bean_parser.specs.Block.{first_line, is_in_column_one, fault_line, is
 use Rattle.bean_parser.specs.Block.{begins_line, begins_line_at}
 use Rattle.bean_parser.specs.Grammar.{directive_of, in_body}
 use Rattle.bean_parser.specs.Outcome.{Gives, GivesAt}
-use Rattle.bean_parser.specs.Plain.{HasSaid, IsPlainHead, IsPostingBehind, TakesUnder}
+use Rattle.bean_parser.specs.Plain.{HasSaid, IsFirstLine, IsPostingBehind, TakesUnder}
 use Rattle.bean_parser.specs.Reading.{ReadsBlock}
 use Rattle.bean_parser.specs.Taken.{TakesDirective}
 use Rattle.bean_parser.specs.Taking.{NoneOf, TakesFirst, TakesOthers, left_of}
@@ -125,7 +125,7 @@ given head t others b d all said =
 
 pub transaction_taken :
     (before mid after : Lexer) (line : List Token) (head d : Directive) (ks : List LineKind)
-    (others all : List Posting) → TakesFirst before line mid → (is : IsPlainHead line head)
+    (others all : List Posting) → TakesFirst before line mid → (is : IsFirstLine line head)
     → TakesUnder mid after ks → EndsLines after
     → HasSaid head is.transaction others (with_lines no_lines ks) d all
     → TakesDirective (with_postings (postings_in (with_lines no_lines ks)) d) before after

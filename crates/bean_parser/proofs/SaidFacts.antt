@@ -11,7 +11,7 @@ use Rattle.bean_directives.specs.declared.transaction.Transaction.{Transaction}
 use Rattle.bean_lexer.specs.ToCome.{EndsLines}
 use Rattle.bean_lexer.specs.declared.lexer.Lexer.{Lexer}
 use Rattle.bean_lexer.specs.declared.token.Token.{Token}
-use Rattle.bean_parser.specs.Plain.{HasSaid, IsPlainHead, TakesPostings, TakesUnder, marked}
+use Rattle.bean_parser.specs.Plain.{HasSaid, IsFirstLine, TakesPostings, TakesUnder, marked}
 use Rattle.bean_parser.specs.Under.{all_before, no_lines, postings_in, said_posting, under_posting}
 use Rattle.bean_parser.specs.Under.{with_entry, with_line, with_lines, with_posting}
 use Rattle.bean_parser.specs.declared.under.Body.{Body}
@@ -24,7 +24,7 @@ with_both b [] js = refl
 with_both b (k ∷ ks) js = with_both (with_line b k) ks js
 
 pub head_says : (line : List Token) (d : Directive) (others : List Posting)
-    → (head : IsPlainHead line d) → HasSaid d head.transaction others no_lines d others
+    → (head : IsFirstLine line d) → HasSaid d head.transaction others no_lines d others
 head_says line d others head = record {
   day = refl;
   line = refl;

@@ -1,4 +1,4 @@
--- Plain transactions, as their tokens are taken from a lexer.
+-- Transactions, as their lines are taken from a lexer.
 use Rattle.std.specs.Prelude.{◌≡◌, ℕ, ◌≤◌, ◌<◌, length, take, true, List, [], ◌∷◌, ◌++◌, map, Option, None, Some}
 use Rattle.theory.specs.Form.{Is}
 use Rattle.bean_lexer.specs.ToCome.{ToCome, EndsLines}
@@ -22,7 +22,7 @@ use Rattle.bean_parser.specs.declared.under.Body.{Body}
 use Rattle.bean_parser.specs.declared.under.LineKind.{LineKind}
 
 -- the first line of a transaction, and what it says without its postings
-pub record IsPlainHead (line : List Token) (d : Directive) : Type 0 where
+pub record IsFirstLine (line : List Token) (d : Directive) : Type 0 where
   pub transaction : Transaction
   pub head : IsHead (lexemes line) (Within d.day) (Within (kinds.Transaction transaction))
   pub kind : d.kind ≡ kinds.Transaction transaction

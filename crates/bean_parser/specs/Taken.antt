@@ -1,4 +1,4 @@
--- What is taken of a text: nothing, a plain transaction, or the tokens of a block.
+-- What is taken of a text: nothing, a transaction, or the tokens of a block.
 use Rattle.std.specs.Prelude.{◌≡◌, Bool, true, false, List, [], ◌∷◌, ◌++◌}
 use Rattle.bean_lexer.specs.declared.token.Token.{Token}
 use Rattle.bean_directives.specs.Given.{with_postings}
@@ -35,11 +35,11 @@ found nexts.Nothing = false
 found nexts.Added = true
 found nexts.Block = true
 
--- a plain transaction is added to directives
-abbrev pub AddsPlain : Next → Lexer → List Token → Lexer → List directives.Directive
+-- a transaction is added to directives
+abbrev pub AddsTransaction : Next → Lexer → List Token → Lexer → List directives.Directive
     → List directives.Directive → Type 0
-AddsPlain nexts.Nothing before block after old new =
+AddsTransaction nexts.Nothing before block after old new =
     TakesBlock false before block after × (new ≡ old)
-AddsPlain nexts.Block before block after old new = TakesBlock true before block after × (new ≡ old)
-AddsPlain nexts.Added before block after old new = (d : directives.Directive)
+AddsTransaction nexts.Block before block after old new = TakesBlock true before block after × (new ≡ old)
+AddsTransaction nexts.Added before block after old new = (d : directives.Directive)
     × TakesDirective d before after × (new ≡ old ++ d ∷ [])

@@ -213,7 +213,8 @@ pub fn fault_at(kind: FaultKind, line: usize) -> Fault
     }
 }
 
-/// What a block says, or its first fault. It stays a call of its own: nearly all blocks are plain.
+/// What a block says, or its first fault. It stays a call of its own: nearly all blocks are transactions, which
+/// are read without it.
 #[inline(never)]
 pub fn read_block<'a>(alloc: Global, block: &[Token<'a>]) -> Result<Outcome<'a>, AllocError>
     ensures { IfOk result (Gives block.now) }

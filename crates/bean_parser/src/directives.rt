@@ -2,7 +2,7 @@
 ghost use Rattle.std.specs.Prelude.{◌≡◌, ◌<◌, ◌≤◌, ◌++◌, ◌∷◌, [], IfOk, OnErr, OnOk, length, map, true};
 ghost use Rattle.std.specs.List.{AllByRecursion};
 ghost use Rattle.bean_directives.specs.Given.{with_postings};
-ghost use Rattle.bean_parser.specs.Taken.{AddsPlain, found};
+ghost use Rattle.bean_parser.specs.Taken.{AddsTransaction, found};
 ghost use Rattle.bean_parser.specs.Waiting.{IsWithin, completed};
 
 use crate::next::{Taken, take_next};
@@ -28,7 +28,7 @@ const ROOM: usize = 16;
 pub enum Next {
     /// There is none.
     Nothing,
-    /// A plain transaction, which was added.
+    /// A transaction, which was added.
     Added,
     /// Another, of which the tokens are known.
     Block,
@@ -149,7 +149,7 @@ impl<'a> Directives<'a> {
         self.settled.len() + self.waiting.len()
     }
 
-    /// Adds a directive. Few blocks aren't plain: what does it stays a call of its own.
+    /// Adds a directive. Nearly all are transactions, which come otherwise: so it stays a call of its own.
     #[inline(never)]
     pub fn push(&mut self, alloc: Global, directive: Directive<'a>) -> Result<(), AllocError>
         ensures { OnOk result (self.new ≡ self.old ++ directive.entry ∷ []) }
@@ -192,16 +192,17 @@ impl<'a> Directives<'a> {
         self.settle_if_full(alloc)
     }
 
-    /// Takes the next block off a lexer, and adds the transaction that it is, if it is a plain one. Each of
-    /// its postings is moved but once, to where it stays. `block` comes to hold the tokens of any other.
+    /// Takes the next block off a lexer, and adds the transaction that it is, if it is one without a fault.
+    /// Each of its postings is moved but once, to where it stays. `block` comes to hold the tokens of any
+    /// other.
     #[inline(always)]
-    pub fn add_plain(
+    pub fn add_transaction(
         &mut self,
         alloc: Global,
         lexer: &mut Lexer<'a>,
         block: &mut Vec<Token<'a>>,
     ) -> Result<Next, AllocError>
-        ensures added { IfOk result (λ next. AddsPlain next lexer.old block.new.items lexer.new self.old self.new) }
+        ensures added { IfOk result (λ next. AddsTransaction next lexer.old block.new.items lexer.new self.old self.new) }
         ensures shorter { IfOk result
             (λ next. found next ≡ true → length lexer.new.rest.now < length lexer.old.rest.now) }
     {

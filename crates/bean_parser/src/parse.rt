@@ -90,7 +90,7 @@ impl<'a> Gathered<'a> {
         ensures shorter { IfOk result (λ some. IsTrue some
             → length lexer.new.rest.now < length lexer.old.rest.now) }
     {
-        match self.directives.add_plain(alloc, lexer, block)? {
+        match self.directives.add_transaction(alloc, lexer, block)? {
             Next::Nothing => Ok(false),
             Next::Added => Ok(true),
             Next::Block => {
@@ -100,7 +100,8 @@ impl<'a> Gathered<'a> {
         }
     }
 
-    /// Adds what a block gives that isn't plain. In place, it would clear memory for each that is.
+    /// Adds what a block gives that isn't a transaction, or is at fault. In place, it would clear memory for
+    /// each other.
     #[inline(never)]
     fn add_other(&mut self, alloc: Global, block: &[Token<'a>]) -> Result<(), AllocError>
         ensures { OnOk result ((o : Outcome) × Gives block.now o

@@ -1,6 +1,6 @@
-//! Plain transactions: a day, a sign and at most two texts, and under them lines that are an account, with a
-//! number and a currency or without. Nearly all blocks are such. Their postings are read as the lexer
-//! finds their tokens, which are kept nowhere.
+//! What nearly all blocks begin with: a day, a sign and at most two texts, and under them lines that are an
+//! account, with a number and a currency or without. Such postings are read as the lexer finds their tokens,
+//! which are kept nowhere.
 ghost use Rattle.std.specs.Prelude.{◌≡◌, ◌<◌, ◌≤◌, [], ◌∷◌, ◌++◌, List, IfOk, IfSome, MatchOption, length};
 ghost use Rattle.bean_lexer.specs.ToCome.{EndsLines, ToCome};
 ghost use Rattle.bean_lexer.specs.declared.kind.Kind.TheVariants as kinds;
@@ -11,7 +11,7 @@ ghost use Rattle.bean_grammar.specs.declared.ranged.Ranged.TheVariants.{Within};
 ghost use Rattle.bean_postings.specs.declared.posting.Posting.{Posting};
 ghost use Rattle.bean_directives.specs.Head.{IsHead};
 ghost use Rattle.bean_directives.specs.declared.directive.DirectiveKind.TheVariants as directives;
-ghost use Rattle.bean_parser.specs.Plain.{IsPlainHead, IsPostingBehind, TakesPostings, TakesUnder};
+ghost use Rattle.bean_parser.specs.Plain.{IsFirstLine, IsPostingBehind, TakesPostings, TakesUnder};
 ghost use Rattle.bean_parser.specs.Under.{said_posting};
 
 use crate::block::{fault_line, is_in_column_one, kept_line};
@@ -59,7 +59,7 @@ fn other_head<'a>(
 /// The directive that begins with a line, if that is the first of a transaction. It has no postings.
 #[inline(always)]
 pub fn head_of<'a>(alloc: Global, line: &[Token<'a>]) -> Result<Option<Directive<'a>>, AllocError>
-    ensures { IfOk result (λ found. IfSome found (IsPlainHead line.now)) }
+    ensures { IfOk result (λ found. IfSome found (IsFirstLine line.now)) }
 {
     if !is_in_column_one(line) {
         return Ok(None);

@@ -2,7 +2,7 @@ use Rattle.std.proofs.Common.{◌≡◌, [], length, drop, arith, refl, rules, s
 use Rattle.std.proofs.lemmas.Grind.{common_steps}
 use Rattle.std.proofs.lemmas.List.{append-nil}
 use Rattle.std.specs.Prelude.{IfSome}
-use Rattle.bean_parser.specs.Plain.{IsPlainHead}
+use Rattle.bean_parser.specs.Plain.{IsFirstLine}
 use Rattle.bean_parser.specs.Taking.{TakesLine}
 use Rattle.bean_parser.specs.Under.{no_lines, postings_in, with_lines}
 use Rattle.bean_parser.proofs.KeptFacts.{behind_kept, kept_cut}
@@ -52,8 +52,8 @@ returns-then-branch-clause-block c =
     subst (λ some. TakesLine some c.args.lexer.now line mid) c.if-not-branch.false
     c.in_ok-take_line.ensures in
     let head =
-    subst (λ l. IsPlainHead l d) c.deref.ensures.value
-    (subst (λ o. IfSome o (IsPlainHead c.deref.result.now)) c.in-Some.is c.in_ok-directive.ensures) in
+    subst (λ l. IsFirstLine l d) c.deref.ensures.value
+    (subst (λ o. IfSome o (IsFirstLine c.deref.result.now)) c.in-Some.is c.in_ok-directive.ensures) in
     let taken =
     c.in_ok-take_lines.ensures.said d head.transaction old (sym all) (head_says line d old head)
     c.if-branch.true in (
@@ -75,8 +75,8 @@ returns-then-branch-clause-shorter c = λ _.
     subst (λ some. TakesLine some c.args.lexer.now line mid) c.if-not-branch.false
     c.in_ok-take_line.ensures in
     let head =
-    subst (λ l. IsPlainHead l d) c.deref.ensures.value
-    (subst (λ o. IfSome o (IsPlainHead c.deref.result.now)) c.in-Some.is c.in_ok-directive.ensures) in
+    subst (λ l. IsFirstLine l d) c.deref.ensures.value
+    (subst (λ o. IfSome o (IsFirstLine c.deref.result.now)) c.in-Some.is c.in_ok-directive.ensures) in
     let taken =
     c.in_ok-take_lines.ensures.said d head.transaction old (sym all) (head_says line d old head)
     c.if-branch.true in

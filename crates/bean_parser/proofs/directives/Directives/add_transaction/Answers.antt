@@ -5,7 +5,7 @@ use Rattle.bean_directives.specs.Given.{with_postings}
 use Rattle.bean_parser.specs.Taken.{Takes}
 use Rattle.bean_parser.specs.Waiting.{IsWithin}
 use Rattle.bean_parser.proofs.WaitingFacts.{last_waits, last_within, within_more}
-use Rattle.bean_parser.proofs.directives.Directives.add_plain.Goals as goal
+use Rattle.bean_parser.proofs.directives.Directives.add_transaction.Goals as goal
 
 pub invariant_of-self-in_err-directive-in-Transaction :
     goal.invariant_of-self-in_err-directive-in-Transaction
