@@ -35,6 +35,6 @@ mod calls;
 mod leaves;
 mod operators;
 
-pub use calls::{call_shape, sum_over};
+pub use calls::{aggregate_for, call_shape};
 pub use leaves::leaf_shape;
-pub use operators::{binary_shape, unary_shape};
+pub use operators::{Operation, binary_shape, operation_of, unary_shape};
