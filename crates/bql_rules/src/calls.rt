@@ -1,4 +1,4 @@
-//! The shapes that functions give.
+//! The shapes that functions give, and the aggregates that some of them are.
 ghost use Rattle.std.specs.Prelude.{◌≡◌};
 ghost use Rattle.std.specs.List.{list_all};
 ghost use Rattle.bql_rules.specs.Rules as rule;

@@ -1,4 +1,4 @@
-//! The shapes that operators give.
+//! The shapes that operators give, and what the machine does for them.
 ghost use Rattle.std.specs.Prelude.{◌≡◌};
 ghost use Rattle.bql_rules.specs.Rules as rule;
 
