@@ -81,7 +81,7 @@ pub struct Directive<'a> {
 
 impl<'a> Directive<'a> {
     ghost use Rattle.std.specs.Prelude.{◌≡◌, MatchOption};
-    ghost use Rattle.bean_directives.specs.Given.{with_postings};
+    ghost use Rattle.bean_directives.specs.Given.{nothing_on, with_postings};
 
     /// Gives a transaction its postings, which stand in a block that is full by now.
     #[inline(always)]
@@ -106,7 +106,9 @@ impl<'a> Directive<'a> {
 
     /// A transaction of nothing, which stands in for a directive that is changed elsewhere. Takes no
     /// memory.
-    pub fn stand_in(day: Day) -> Directive<'a> {
+    pub fn stand_in(day: Day) -> Directive<'a>
+        ensures { result ≡ nothing_on day }
+    {
         Directive {
             day,
             line: 0,

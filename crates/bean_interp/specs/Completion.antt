@@ -10,7 +10,6 @@ use Rattle.bean_interp.specs.Tolerance.{precision}
 use Rattle.refusals.specs.declared.refusal.Refusal.{Refusal}
 use Rattle.bean_interp.specs.declared.cause.CompletionCause.{CompletionCause}
 use Rattle.bean_interp.specs.declared.cause.CompletionCause.TheVariants as completion
-use Rattle.bean_interp.specs.declared.cause.WeighCause.TheVariants.{TooWide}
 use Rattle.refusals.specs.declared.refusal.Refusal.TheVariants.{OutOfMemory, Refused}
 use Rattle.bean_interp.specs.declared.fill.Fill.{Fill}
 use Rattle.bean_interp.specs.declared.leg.Leg.{Leg}

@@ -43,7 +43,7 @@ fn are_whole(legs: &[Leg<'_>]) -> bool
 }
 
 impl<'a> Scales<'a> {
-    ghost use Rattle.bean_interp.specs.Balance.{is_balanced, is_even};
+    ghost use Rattle.bean_interp.specs.Balance.{come_to_zero, is_balanced, is_even};
     ghost use Rattle.bean_interp.specs.Completion.{CanBeFilled, Completes, gaps, gaps_of};
     ghost use Rattle.bean_interp.specs.Filling.{AreFilled, HaveNumbers, all_currencies};
     ghost use Rattle.bean_interp.specs.Filling.{currency_at, gaps_in};
@@ -114,7 +114,9 @@ impl<'a> Scales<'a> {
     /// Whether the legs on the scales come to 0 in every currency. Such a transaction balances,
     /// whatever decimals are written.
     pub fn are_zero(&self) -> bool
-        ensures { IsTrue result → (legs : prelude.List Leg) → AreWeighed self.now legs
+        ensures exact { (legs : prelude.List Leg) → AreWeighed self.now legs
+            → result ≡ come_to_zero legs }
+        ensures balanced { IsTrue result → (legs : prelude.List Leg) → AreWeighed self.now legs
             → is_balanced legs ≡ true }
     {
         self.sums.are_zero()

@@ -6,4 +6,3 @@ pub mod After
 pub mod Rest
 pub mod Front
 pub mod Back
-pub mod LotCause

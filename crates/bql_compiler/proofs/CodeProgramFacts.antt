@@ -6,17 +6,15 @@ use Rattle.std.proofs.lemmas.Bool.{cases_lt}
 use Rattle.limits.specs.declared.counts.TheConstants.{MOST_VALUES}
 use Rattle.bql_code.specs.Code.{code, all_code, depth, all_depth}
 use Rattle.bql_code.specs.Core.{Core}
-use Rattle.plain_machine.specs.SectionRun.{Acts}
 use Rattle.query_code.specs.declared.instruction.Instruction.{Instruction}
 use Rattle.query_code.specs.declared.program.Mode.{Mode}
 use Rattle.query_code.specs.declared.program.Mode.TheVariants.{Plain, Grouped}
 use Rattle.query_code.specs.declared.program.Parts.{Parts}
 use Rattle.query_rows.specs.declared.shape.Shape.{Shape}
 use Rattle.query_rows.specs.declared.shape.Shape.TheVariants.{Truth}
-use Rattle.well_shaped.specs.Ends.{AreRow}
 use Rattle.well_shaped.specs.Program.{EndsWell, HasDepthInLast, HasDepthSomewhere, IsDepth}
 use Rattle.well_shaped.specs.Program.{IsWellShaped}
-use Rattle.well_shaped.specs.Sections.{Loads, filter_acts, filter_loads, last_acts, last_loads}
+use Rattle.well_shaped.specs.Sections.{Loads, filter_acts, filter_loads, last_loads}
 use Rattle.well_shaped.specs.Sections.{row_acts, row_loads, shape_acts}
 use Rattle.bql_compiler.specs.CoreShape.{HasShape, HaveShapes}
 use Rattle.bql_compiler.specs.Shaped.{IsCodeOf, EndsIn, HasShapes, depth_of}

@@ -1,6 +1,6 @@
 -- Code that is laid from the empty stack is a section with shapes at all its places.
-use Rattle.std.proofs.Common.{◌≡◌, ◌⊎◌, ℕ, zero, suc, ◌+◌, ◌<◌, ◌≤◌, max, List, [], ◌∷◌, ◌++◌, length}
-use Rattle.std.proofs.Common.{reverse, get_or, Option, Some, None, refl, sym, ap, ◌∙◌, subst, ⊎_elim}
+use Rattle.std.proofs.Common.{◌≡◌, ◌⊎◌, ℕ, zero, suc, ◌+◌, ◌<◌, ◌≤◌, List, [], ◌∷◌, ◌++◌, length}
+use Rattle.std.proofs.Common.{reverse, get_or, Some, refl, sym, ap, ◌∙◌, subst}
 use Rattle.std.proofs.Common.{inl, inr, arith, length-append}
 use Rattle.std.specs.Prelude.{slice_get, slice_index_or}
 use Rattle.std.proofs.lemmas.Bool.{cases_lt}
@@ -9,10 +9,10 @@ use Rattle.plain_machine.specs.SectionRun.{Acts, State, effect}
 use Rattle.query_code.specs.declared.instruction.Instruction.{Instruction}
 use Rattle.query_code.specs.declared.instruction.Instruction.TheVariants.{Jump}
 use Rattle.query_rows.specs.declared.shape.Shape.{Shape}
-use Rattle.well_shaped.specs.Places.{AreGiven, HasDepth, IsLedTo, Leaves, LeadsTo}
+use Rattle.well_shaped.specs.Places.{AreGiven, HasDepth, IsLedTo, Leaves}
 use Rattle.well_shaped.specs.StateShape.{IsStateBelow}
 use Rattle.well_shaped.proofs.BelowFacts.{state_reflexive}
-use Rattle.bql_compiler.proofs.StandsAt.{StandsAt, front, itself, moved}
+use Rattle.bql_compiler.proofs.StandsAt.{itself}
 use Rattle.bql_compiler.proofs.LaidFacts.{Stack, shaped, deepest, Flows, AllFlow, flow_at, Laid}
 
 -- A section that leaves these values, and the most that stand on its stack.

@@ -1,6 +1,6 @@
 -- The code of an expression that has a shape leads to that shape on top of the stack.
 use Rattle.std.proofs.Common.{◌≡◌, ℕ, ◌+◌, ◌<◌, ◌≤◌, max, true, ◌&&◌, List, [], ◌∷◌, ◌++◌, length}
-use Rattle.std.proofs.Common.{reverse, Option, Some, refl, sym, ap, ◌∙◌, subst, ⊎_elim, inl, inr}
+use Rattle.std.proofs.Common.{reverse, Some, refl, sym, ap, ◌∙◌, subst, ⊎_elim, inl, inr}
 use Rattle.std.proofs.Common.{arith, append_assoc, length-append}
 use Rattle.std.specs.Cmp.Derive.{both_true}
 use Rattle.std.specs.Prelude.{slice_get, nat_lt, nat_le}
@@ -8,7 +8,7 @@ use Rattle.std.proofs.lemmas.Bool.{le-leb, lt-ltb}
 use Rattle.std.proofs.lemmas.List.{reverse-append}
 use Rattle.limits.specs.declared.counts.TheConstants.{MOST_VALUES}
 use Rattle.bql_code.specs.Code.{verdict, load_of, change_of, code, all_code, depth, all_depth}
-use Rattle.bql_code.specs.Core.{Load, Change, Core, loading, changing, joining, both, either}
+use Rattle.bql_code.specs.Core.{Core, loading, changing, joining, both, either}
 use Rattle.plain_machine.specs.SectionRun.{Acts}
 use Rattle.query_code.specs.declared.instruction.Instruction.{Instruction}
 use Rattle.query_code.specs.declared.instruction.Instruction.TheVariants.{Push, Unary, Binary, Jump}
@@ -22,10 +22,9 @@ use Rattle.well_shaped.specs.Places.{IsLedTo}
 use Rattle.well_shaped.specs.Sections.{Loads, shape_acts}
 use Rattle.bql_compiler.specs.CoreShape.{HasShape, HaveShapes}
 use Rattle.bql_compiler.proofs.StandsAt.{StandsAt, back, moved}
-use Rattle.bql_compiler.proofs.LaidFacts.{Stack, Flows, AllFlow, Laid, first_of, deepest}
+use Rattle.bql_compiler.proofs.LaidFacts.{Stack, Flows, AllFlow, Laid, first_of}
 use Rattle.bql_compiler.proofs.LaidFacts.{none_laid, then_laid, push_flow, push_laid}
 use Rattle.bql_compiler.proofs.LaidFacts.{unary_laid, binary_laid}
-use Rattle.bql_compiler.proofs.LaidFacts.{shaped}
 
 pub some_depth : (e : Core) → 1 ≤ depth e
 some_depth (loading l) = omega arith

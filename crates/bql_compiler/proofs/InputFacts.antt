@@ -7,7 +7,7 @@ use Rattle.std.specs.List.{AllByRecursion}
 use Rattle.limits.specs.declared.bounds.Bounds.{Bounds}
 use Rattle.bql_meaning.specs.Meaning.{applied, input_of, value_of, values_of}
 use Rattle.bql_meaning.specs.Reading.{Reading}
-use Rattle.bql_rules.specs.Rules.{sum_over}
+use Rattle.bql_rules.specs.Rules.{sum_over, summing}
 use Rattle.bql_compiler.specs.Program.{input_in, inputs_in}
 use Rattle.bql_tree.specs.Tree.{leaf_of, one_of, two_of, call_of, Tree, node, Trees}
 use Rattle.bql_tree.specs.Tree.{no_trees, trees}
@@ -15,7 +15,7 @@ use Rattle.bql_tree.specs.declared.function.Function.{Function}
 use Rattle.bql_tree.specs.declared.function.Function.TheVariants as function
 use Rattle.bql_tree.specs.declared.tree.Leaf.{Leaf}
 use Rattle.bql_tree.specs.declared.tree.Leaf.TheVariants as leaf
-use Rattle.bql_types.specs.Gathered.{aggregate_by, aggregate_in, summing}
+use Rattle.bql_types.specs.Gathered.{aggregate_by, aggregate_in, single}
 use Rattle.bql_types.specs.Shaped.{rule, shapes_of}
 use Rattle.bql_types.specs.Sought.{is_aggregate}
 use Rattle.bql_types.specs.Typing.{Grouping}
@@ -49,11 +49,10 @@ module _ (b : Bounds) where
       → next_input (aggregate_in b u) (values_for r (input_in u) ++ rest)
       ≡ Some (input_at u r, rest)
 
-  of_sum : (o : Option (List Shape)) (x : Value) (rest : List Value)
+  of_sum : (o : Option Shape) (x : Value) (rest : List Value)
       → next_input (summing o) (x ∷ rest) ≡ Some (x, rest)
   of_sum None x rest = refl
-  of_sum (Some []) x rest = refl
-  of_sum (Some (s ∷ [])) x rest = by s
+  of_sum (Some s) x rest = by s
     where
       by : (s : Shape) → next_input (sum_over s) (x ∷ rest) ≡ Some (x, rest)
       by shape.Truth = refl
@@ -64,7 +63,6 @@ module _ (b : Bounds) where
       by (shape.Amount p m) = refl
       by (shape.Position p m) = refl
       by (shape.Inventory q p m) = refl
-  of_sum (Some (s ∷ t ∷ ss)) x rest = refl
 
   no_call : (f : Function) (s : Shape) → is_aggregate (call_of f) ≡ true
       → (ss : List Shape) → [] ≡ ss → rule b (call_of f) ss ≡ Ok s → ⊥
@@ -93,7 +91,7 @@ module _ (b : Bounds) where
       → is_aggregate (call_of f) ≡ true → Takes (node at (call_of f) (trees t ts))
   call_takes at function.Count t ts is r rest = refl
   call_takes at function.Sum t ts is r rest =
-      of_sum (shapes_of b false (trees t ts)) (value_of b (r ∷ []) t) rest
+      of_sum (single (shapes_of b false (trees t ts))) (value_of b (r ∷ []) t) rest
   call_takes at function.First t ts is r rest = refl
   call_takes at function.Last t ts is r rest = refl
   call_takes at function.Min t ts is r rest = refl

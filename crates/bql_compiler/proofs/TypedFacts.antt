@@ -9,7 +9,7 @@ use Rattle.bql_code.specs.Laws.{StandsIn}
 use Rattle.bql_code.specs.Pool.{used}
 use Rattle.bql_lowering.specs.Lowered.{Gathered, by_operation, has, in_list, lowered, of_binary}
 use Rattle.bql_lowering.specs.Lowered.{of_function}
-use Rattle.bql_lowering.specs.Lowered.{of_null, operation_of, places_in, places_of}
+use Rattle.bql_lowering.specs.Lowered.{of_null, places_in, places_of, unary_of}
 use Rattle.bql_parser.specs.Small.{AreSmallTrees, IsSmallIn, IsSmallTree}
 use Rattle.bql_plan.specs.Plan.{index_of}
 use Rattle.bql_rules.specs.Rules as rules
@@ -414,7 +414,7 @@ module _ (b : Bounds) (bounds : AreBounds b) (pool : List Constant) (l : Loads) 
       (function_shape pool l b.postings f h.one s (lowered b g t) plain
       (one h.one h.more (of_same [] h.more h.others) gives)
       (shown.0 h.one h.first small.0 there.0
-      (by_one_parts b bounds pool l (operation_of f) (lowered b g t) stands_one)))
+      (by_one_parts b bounds pool l (unary_of f) (lowered b g t) stands_one)))
     where
       one : (a : Shape) (more : List Shape) → [] ≡ more → single b.postings f (a ∷ more) ≡ Ok s
           → rules.of_one b.postings f a ≡ Ok s

@@ -6,7 +6,7 @@ use Rattle.limits.specs.declared.bounds.Bounds.{Bounds}
 use Rattle.limits.specs.declared.counts.TheConstants.{LONGEST_SECTION, MOST_ITEMS, MOST_VALUES}
 use Rattle.bql_parser.specs.Asked.{Asked, Target}
 use Rattle.bql_plan.specs.Plan.{Plan, plan}
-use Rattle.bql_tree.specs.Tree.{Tree, node, Trees, no_trees, trees}
+use Rattle.bql_tree.specs.Tree.{Tree, node, no_trees, trees}
 use Rattle.bql_types.specs.Gathered.{aggregate_in}
 use Rattle.query_code.specs.declared.program.Code.{Code}
 use Rattle.query_code.specs.declared.program.Constant.{Constant}
@@ -14,7 +14,6 @@ use Rattle.query_code.specs.declared.program.Mode.{Mode}
 use Rattle.query_code.specs.declared.program.Mode.TheVariants.{Plain, Grouped}
 use Rattle.query_code.specs.declared.program.Output.{Output}
 use Rattle.query_code.specs.declared.program.Parts.{Parts}
-use Rattle.query_values.specs.declared.operation.Aggregate.{Aggregate}
 use Rattle.bql_code.specs.Code.{code, all_code, depth, all_depth}
 use Rattle.bql_code.specs.Core.{Core, truth, loading, both}
 use Rattle.bql_lowering.specs.Lowered.{Gathered, of_a_row, lowered, all_lowered}

@@ -1,5 +1,5 @@
 -- What the sections of a program compute has shapes, so that the program is well shaped.
-use Rattle.std.specs.Prelude.{◌≡◌, ℕ, ◌≤◌, max, List, [], ◌∷◌}
+use Rattle.std.specs.Prelude.{◌≡◌, ℕ, ◌≤◌, max, List, []}
 use Rattle.limits.specs.declared.counts.TheConstants.{MOST_VALUES}
 use Rattle.bql_code.specs.Code.{code, all_code, depth, all_depth}
 use Rattle.bql_code.specs.Core.{Core}

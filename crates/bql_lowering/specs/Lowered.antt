@@ -6,6 +6,9 @@ use Rattle.std.specs.Prelude.{[], ◌∷◌, ◌++◌, map, Option, Some, None, 
 use Rattle.limits.specs.declared.bounds.Bounds.{Bounds}
 use Rattle.bean_base.specs.declared.days.Day as days
 use Rattle.bql_plan.specs.Plan.{index_of}
+use Rattle.bql_rules.specs.Rules.{operation_of}
+use Rattle.bql_rules.specs.declared.operators.Operation as operator
+use Rattle.bql_rules.specs.declared.operators.Operation.TheVariants.{Or, And, Aligned, Plain}
 use Rattle.bql_tree.specs.Tree.{Operation, leaf_of, one_of, two_of, call_of, Tree, node, Trees}
 use Rattle.bql_tree.specs.Tree.{no_trees, trees}
 use Rattle.bql_lowering.specs.Kind.{first_kind}
@@ -29,7 +32,6 @@ use Rattle.query_terms.specs.declared.column.Column.TheVariants as columns
 use Rattle.query_rows.specs.declared.shape.Shape.{Shape}
 use Rattle.query_rows.specs.declared.shape.Shape.TheVariants.{Number}
 use Rattle.query_values.specs.declared.operation.Binary as two
-use Rattle.query_values.specs.declared.operation.Binary.TheVariants as operations
 use Rattle.bql_code.specs.Core.{truth, constant, column, entry, key, aggregate, Core, loading}
 use Rattle.bql_code.specs.Core.{changing, joining, both, either, plainly, matching}
 use Rattle.bql_code.specs.Core.{some_matching, among}
@@ -52,12 +54,12 @@ joined op (Some p) (Some q) x y =
 joined op p q x y = joining op x y
 
 -- whether an operation wants its operands at equal decimals, where they are numbers
+abbrev pub is_aligned : operator.Operation → Bool
+is_aligned (Aligned op) = true
+is_aligned op = false
+
 abbrev pub wants_places : BinaryOperator → Bool
-wants_places binary.Or = false
-wants_places binary.And = false
-wants_places binary.In = false
-wants_places binary.Times = false
-wants_places op = true
+wants_places op = is_aligned (operation_of op)
 
 -- ---- operations
 
@@ -85,42 +87,37 @@ abbrev pub of_null : BinaryOperator → Core → Core
 of_null binary.NotEqual x = on_one operation.Not (on_one operation.IsNull x)
 of_null op x = on_one operation.IsNull x
 
+abbrev pub of_operation : operator.Operation → Option ℕ → Option ℕ → Core → Core → Core
+of_operation Or p q x y = either x y
+of_operation And p q x y = both x y
+of_operation (Aligned op) p q x y = joined op p q x y
+of_operation (Plain op) p q x y = joining op x y
+
 abbrev pub of_binary : BinaryOperator → Option ℕ → Option ℕ → Core → Core → Core
-of_binary binary.Or p q x y = either x y
-of_binary binary.And p q x y = both x y
-of_binary binary.Equal p q x y = joined operations.Equal p q x y
-of_binary binary.NotEqual p q x y = joined operations.NotEqual p q x y
-of_binary binary.Less p q x y = joined operations.Less p q x y
-of_binary binary.LessOrEqual p q x y = joined operations.AtMost p q x y
-of_binary binary.Greater p q x y = joined operations.Greater p q x y
-of_binary binary.GreaterOrEqual p q x y = joined operations.AtLeast p q x y
-of_binary binary.In p q x y = joining operations.InSet x y
-of_binary binary.Plus p q x y = joined operations.Add p q x y
-of_binary binary.Minus p q x y = joined operations.Sub p q x y
-of_binary binary.Times p q x y = joining operations.Mul x y
+of_binary op p q x y = of_operation (operation_of op) p q x y
 
 -- the operation that a function of one argument is
-abbrev pub operation_of : Function → Option machine.Unary
-operation_of function.Parent = Some operation.Parent
-operation_of function.Leaf = Some operation.Leaf
-operation_of function.Length = Some operation.Length
-operation_of function.Units = Some operation.Units
-operation_of function.Cost = Some operation.Cost
-operation_of function.Year = Some operation.Year
-operation_of function.Month = Some operation.Month
-operation_of function.Day = Some operation.Day
-operation_of function.Number = Some operation.Number
-operation_of function.Currency = Some operation.Currency
-operation_of function.Abs = Some operation.Abs
-operation_of function.RootRank = Some operation.RootRank
-operation_of f = None
+abbrev pub unary_of : Function → Option machine.Unary
+unary_of function.Parent = Some operation.Parent
+unary_of function.Leaf = Some operation.Leaf
+unary_of function.Length = Some operation.Length
+unary_of function.Units = Some operation.Units
+unary_of function.Cost = Some operation.Cost
+unary_of function.Year = Some operation.Year
+unary_of function.Month = Some operation.Month
+unary_of function.Day = Some operation.Day
+unary_of function.Number = Some operation.Number
+unary_of function.Currency = Some operation.Currency
+unary_of function.Abs = Some operation.Abs
+unary_of function.RootRank = Some operation.RootRank
+unary_of f = None
 
 abbrev pub by_one : Option machine.Unary → Core → Core
 by_one (Some op) x = on_one op x
 by_one None x = x
 
 abbrev pub of_function : Function → Core → Core
-of_function f x = by_one (operation_of f) x
+of_function f x = by_one (unary_of f) x
 
 -- ---- lists
 

@@ -5,6 +5,7 @@ ghost use Rattle.bql_lowering.specs.Lowered as rule;
 ghost use Rattle.bql_parser.specs.Small.{IsSmallUnary};
 
 use bql_code::{Change, Core, ShortText};
+use bql_rules::{Operation, operation_of};
 use bql_tree::{BinaryOperator, Function, UnaryOperator};
 use query_code::Unary;
 use query_values::Binary;
@@ -104,25 +105,17 @@ pub(crate) fn of_binary<'a>(
 {
     let x = Box::new(alloc, x)?;
     let y = Box::new(alloc, y)?;
-    match op {
-        BinaryOperator::Or => Ok(Core::Or(x, y)),
-        BinaryOperator::And => Ok(Core::And(x, y)),
-        BinaryOperator::Equal => joined(alloc, Binary::Equal, places, x, y),
-        BinaryOperator::NotEqual => joined(alloc, Binary::NotEqual, places, x, y),
-        BinaryOperator::Less => joined(alloc, Binary::Less, places, x, y),
-        BinaryOperator::LessOrEqual => joined(alloc, Binary::AtMost, places, x, y),
-        BinaryOperator::Greater => joined(alloc, Binary::Greater, places, x, y),
-        BinaryOperator::GreaterOrEqual => joined(alloc, Binary::AtLeast, places, x, y),
-        BinaryOperator::In => Ok(Core::Join(Binary::InSet, x, y)),
-        BinaryOperator::Plus => joined(alloc, Binary::Add, places, x, y),
-        BinaryOperator::Minus => joined(alloc, Binary::Sub, places, x, y),
-        BinaryOperator::Times => Ok(Core::Join(Binary::Mul, x, y)),
+    match operation_of(op) {
+        Operation::Or => Ok(Core::Or(x, y)),
+        Operation::And => Ok(Core::And(x, y)),
+        Operation::Aligned(op) => joined(alloc, op, places, x, y),
+        Operation::Plain(op) => Ok(Core::Join(op, x, y)),
     }
 }
 
 /// The operation of the machine that a function of one argument is.
-fn operation_of(function: Function) -> Option<Unary>
-    ensures { result ≡ rule.operation_of function }
+fn unary_of(function: Function) -> Option<Unary>
+    ensures { result ≡ rule.unary_of function }
 {
     match function {
         Function::Parent => Some(Unary::Parent),
@@ -149,7 +142,7 @@ pub(crate) fn of_function<'a>(
 ) -> Result<Core<'a>, AllocError>
     ensures { IfOk result (λ r. core_of r ≡ rule.of_function function (core_of x.entry)) }
 {
-    match operation_of(function) {
+    match unary_of(function) {
         Some(op) => on_one(alloc, op, x),
         None => Ok(x),
     }

@@ -8,6 +8,7 @@ ghost use Rattle.bql_types.specs.Keys.{lent_trees};
 ghost use Rattle.bql_types.specs.Sought.{is_key};
 ghost use Rattle.query_rows.specs.ColumnShape.{AreBounds};
 
+use bql_rules::{Operation, operation_of};
 use bql_tree::{BinaryOperator, Expr};
 use bql_types::grouped::Key;
 use bql_types::same::same;
@@ -65,10 +66,7 @@ pub(crate) fn places_of(
 fn wants_places(op: BinaryOperator) -> bool
     ensures { result ≡ rule.wants_places op }
 {
-    !matches!(
-        op,
-        BinaryOperator::Or | BinaryOperator::And | BinaryOperator::In | BinaryOperator::Times
-    )
+    matches!(operation_of(op), Operation::Aligned(_))
 }
 
 /// The decimals of an operand, where the operation asks for them. They are found by descending all

@@ -3,6 +3,7 @@ use Rattle.std.proofs.Common.{◌≡◌, ℕ, Bool, true, false, ◌&&◌, List,
 use Rattle.std.proofs.Common.{None}
 use Rattle.std.proofs.Common.{Ok, refl, sym, ap, subst, ◌∙◌, cond}
 use Rattle.limits.specs.declared.bounds.Bounds.{Bounds}
+use Rattle.bql_rules.specs.Rules.{summing}
 use Rattle.bql_tree.specs.Tree.{Operation, leaf_of, one_of, two_of, call_of, Tree, node, Trees}
 use Rattle.bql_tree.specs.Tree.{no_trees, trees}
 use Rattle.bql_tree.specs.declared.function.Function.{Function}
@@ -16,7 +17,7 @@ use Rattle.query_rows.specs.Shape.{IsBelow}
 use Rattle.query_rows.specs.declared.shape.Shape.{Shape}
 use Rattle.query_values.specs.Aggregate.{aggregate_of}
 use Rattle.bql_meaning.specs.Meaning.{value_of, values_of, applied, input_of}
-use Rattle.bql_types.specs.Gathered.{aggregate_by, summing, of_call}
+use Rattle.bql_types.specs.Gathered.{aggregate_by, of_call, single}
 use Rattle.bql_meaning.specs.Reading.{Reading}
 use Rattle.bql_meaning.proofs.BoundFacts.{least, Gives, AllBelow, leaf_lesser, one_lesser}
 use Rattle.bql_meaning.proofs.BoundFacts.{two_lesser, call_lesser, sum_below}
@@ -129,7 +130,8 @@ mutual
 
 -- ---- values
 
-sums_same : (us ss : List Shape) → AllBelow us ss → summing (Some us) ≡ summing (Some ss)
+sums_same : (us ss : List Shape) → AllBelow us ss
+    → summing (single (Some us)) ≡ summing (single (Some ss))
 sums_same [] [] all = refl
 sums_same [] (s ∷ ss) all = absurd all
 sums_same (u ∷ us) [] all = absurd all

@@ -1,6 +1,6 @@
 -- The shapes that the operations of a query give.
 use Rattle.std.specs.Prelude.{ℕ, ◌&&◌, Bool, true, false, max, List, [], ◌∷◌}
-use Rattle.std.specs.Prelude.{fold, Some, Ok, Err, if◌then◌else◌}
+use Rattle.std.specs.Prelude.{fold, Option, Some, None, Ok, Err, if◌then◌else◌}
 use Rattle.std.specs.Int.RustNames.{unsigned_abs}
 use Rattle.std.specs.List.{list_all}
 use Rattle.std.specs.Result.{is_ok}
@@ -13,6 +13,8 @@ use Rattle.bql_tree.specs.declared.tree.Leaf.{Leaf}
 use Rattle.bql_tree.specs.declared.tree.Leaf.TheVariants as leaf
 use Rattle.bql_tree.specs.declared.tree.UnaryOperator.{UnaryOperator}
 use Rattle.bql_tree.specs.declared.tree.UnaryOperator.TheVariants as unary
+use Rattle.bql_rules.specs.declared.operators.Operation.{Operation}
+use Rattle.bql_rules.specs.declared.operators.Operation.TheVariants.{Or, And, Aligned, Plain}
 use Rattle.query_terms.specs.Column.{is_in}
 use Rattle.query_rows.specs.ColumnShape.{column_shape}
 use Rattle.query_rows.specs.Rules as machine
@@ -64,19 +66,29 @@ by_machine op (Number p m) (Number q n) =
     of_both op (machine.aligned (max p q) (Number p m)) (machine.aligned (max p q) (Number q n))
 by_machine op s t = machine.binary_shape op s t
 
+-- what the machine does for an operator between two values
+abbrev pub operation_of : BinaryOperator → Operation
+operation_of binary.Or = Or
+operation_of binary.And = And
+operation_of binary.Equal = Aligned operations.Equal
+operation_of binary.NotEqual = Aligned operations.NotEqual
+operation_of binary.Less = Aligned operations.Less
+operation_of binary.LessOrEqual = Aligned operations.AtMost
+operation_of binary.Greater = Aligned operations.Greater
+operation_of binary.GreaterOrEqual = Aligned operations.AtLeast
+operation_of binary.In = Plain operations.InSet
+operation_of binary.Plus = Aligned operations.Add
+operation_of binary.Minus = Aligned operations.Sub
+operation_of binary.Times = Plain operations.Mul
+
+abbrev pub operation_shape : Operation → Shape → Shape → Ruled
+operation_shape Or s t = of_truths s t
+operation_shape And s t = of_truths s t
+operation_shape (Aligned op) s t = by_machine op s t
+operation_shape (Plain op) s t = machine.binary_shape op s t
+
 abbrev pub binary_shape : BinaryOperator → Shape → Shape → Ruled
-binary_shape binary.Or s t = of_truths s t
-binary_shape binary.And s t = of_truths s t
-binary_shape binary.Equal s t = by_machine operations.Equal s t
-binary_shape binary.NotEqual s t = by_machine operations.NotEqual s t
-binary_shape binary.Less s t = by_machine operations.Less s t
-binary_shape binary.LessOrEqual s t = by_machine operations.AtMost s t
-binary_shape binary.Greater s t = by_machine operations.Greater s t
-binary_shape binary.GreaterOrEqual s t = by_machine operations.AtLeast s t
-binary_shape binary.In s t = machine.binary_shape operations.InSet s t
-binary_shape binary.Plus s t = by_machine operations.Add s t
-binary_shape binary.Minus s t = by_machine operations.Sub s t
-binary_shape binary.Times s t = machine.binary_shape operations.Mul s t
+binary_shape op s t = operation_shape (operation_of op) s t
 
 -- ---- functions of one argument
 
@@ -86,14 +98,26 @@ sum_over (Number p m) = aggregate.Sum p
 sum_over (Amount p m) = aggregate.SumInventory p
 sum_over s = aggregate.SumInventory 8
 
+abbrev pub summing : Option Shape → Aggregate
+summing (Some s) = sum_over s
+summing None = aggregate.SumInventory 8
+
+-- the aggregate that a function is, over values of one shape, or of none
+abbrev pub aggregate_for : Function → Option Shape → Option Aggregate
+aggregate_for function.Count s = Some aggregate.Count
+aggregate_for function.Sum s = Some (summing s)
+aggregate_for function.First s = Some aggregate.First
+aggregate_for function.Last s = Some aggregate.Last
+aggregate_for function.Min s = Some aggregate.Min
+aggregate_for function.Max s = Some aggregate.Max
+aggregate_for f s = None
+
+abbrev pub gathered_by : Option Aggregate → ℕ → Shape → Ruled
+gathered_by (Some a) n s = machine.aggregate_shape n a (Some s)
+gathered_by None n s = Err Kind
+
 abbrev pub gathered : ℕ → Function → Shape → Ruled
-gathered n function.Count s = machine.aggregate_shape n aggregate.Count (Some s)
-gathered n function.Sum s = machine.aggregate_shape n (sum_over s) (Some s)
-gathered n function.First s = machine.aggregate_shape n aggregate.First (Some s)
-gathered n function.Last s = machine.aggregate_shape n aggregate.Last (Some s)
-gathered n function.Min s = machine.aggregate_shape n aggregate.Min (Some s)
-gathered n function.Max s = machine.aggregate_shape n aggregate.Max (Some s)
-gathered n f s = Err Kind
+gathered n f s = gathered_by (aggregate_for f (Some s)) n s
 
 abbrev pub of_one : ℕ → Function → Shape → Ruled
 of_one n function.Parent s = machine.of_text Text s

@@ -1,4 +1,4 @@
-//! The shapes that functions give.
+//! The shapes that functions give, and the aggregates that some of them are.
 ghost use Rattle.std.specs.Prelude.{◌≡◌};
 ghost use Rattle.std.specs.List.{list_all};
 ghost use Rattle.bql_rules.specs.Rules as rule;
@@ -13,7 +13,7 @@ use query_rows::{Misfit, Shape, aggregate_shape};
 use query_values::Aggregate;
 
 /// The aggregate that sums values of the shape: numbers to a number, others to an inventory.
-pub fn sum_over(shape: Shape) -> Aggregate
+fn sum_over(shape: Shape) -> Aggregate
     ensures { result ≡ rule.sum_over shape }
 {
     match shape {
@@ -23,20 +23,39 @@ pub fn sum_over(shape: Shape) -> Aggregate
     }
 }
 
+/// The aggregate that sums what has one shape; an inventory where it has none.
+fn summing(shape: Option<Shape>) -> Aggregate
+    ensures { result ≡ rule.summing shape }
+{
+    match shape {
+        Some(shape) => sum_over(shape),
+        None => Aggregate::SumInventory(8),
+    }
+}
+
+/// The aggregate that a function is, if it is one, over values of one shape, or of none.
+pub fn aggregate_for(function: Function, shape: Option<Shape>) -> Option<Aggregate>
+    ensures { result ≡ rule.aggregate_for function shape }
+{
+    match function {
+        Function::Count => Some(Aggregate::Count),
+        Function::Sum => Some(summing(shape)),
+        Function::First => Some(Aggregate::First),
+        Function::Last => Some(Aggregate::Last),
+        Function::Min => Some(Aggregate::Min),
+        Function::Max => Some(Aggregate::Max),
+        _ => None,
+    }
+}
+
 /// What an aggregate function gives, over at most so many values of the shape.
 fn gathered(postings: u32, function: Function, shape: Shape) -> Result<Shape, Misfit>
     ensures { result ≡ rule.gathered postings function shape }
 {
-    let aggregate = match function {
-        Function::Count => Aggregate::Count,
-        Function::Sum => sum_over(shape),
-        Function::First => Aggregate::First,
-        Function::Last => Aggregate::Last,
-        Function::Min => Aggregate::Min,
-        Function::Max => Aggregate::Max,
-        _ => return Err(Misfit::Kind),
-    };
-    aggregate_shape(postings, aggregate, Some(shape))
+    match aggregate_for(function, Some(shape)) {
+        Some(aggregate) => aggregate_shape(postings, aggregate, Some(shape)),
+        None => Err(Misfit::Kind),
+    }
 }
 
 /// What a function of one argument gives.

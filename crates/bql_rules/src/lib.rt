@@ -1,12 +1,15 @@
-//! The shapes of a query's expressions: which shape each leaf has, and each operation gives.
+//! The shapes of a query's expressions: which shape each leaf has, and each operation gives; what the
+//! machine does for an operator, and which aggregate a function is.
 //!
 //! ```text
-//! let number = column_shape(&bounds, Column::Number);          // 8 decimals, below 10^20
-//! binary_shape(BinaryOperator::Times, number, number)                  // Err(Misfit::TooWide)
+//! let number = column_shape(&bounds, Column::Number);      // 8 decimals, below 10^20
+//! binary_shape(BinaryOperator::Times, number, number)      // Err(Misfit::TooWide)
 //! let bounds = Bounds { units_digits: 14, ..bounds };
 //! let number = column_shape(&bounds, Column::Number);
-//! binary_shape(BinaryOperator::Times, number, number)                  // Ok: 16 decimals
-//! call_shape(&bounds, Function::Units, &[Shape::Text])         // Err(Misfit::Kind)
+//! binary_shape(BinaryOperator::Times, number, number)      // Ok: 16 decimals
+//! call_shape(&bounds, Function::Units, &[Shape::Text])     // Err(Misfit::Kind)
+//! operation_of(BinaryOperator::Times)                      // Operation::Plain(Binary::Mul)
+//! aggregate_for(Function::Sum, Some(number))               // Some(Aggregate::Sum(8))
 //! ```
 //!
 //! # What is taken for granted
@@ -18,7 +21,9 @@
 //!
 //! An operation of the query language is one of the machine's (`query_rows`), where numbers of
 //! different decimals were brought to the greater count first. So what is given a shape here can be
-//! computed there. A new function is a row in the code, and one in `specs/`.
+//! computed there. Which operation an operator is, and which aggregate a function, is told here for
+//! whoever types queries and whoever compiles them. A new function is a row in the code, and one in
+//! `specs/`.
 //!
 //! # Misfits
 //!
@@ -35,6 +40,6 @@ mod calls;
 mod leaves;
 mod operators;
 
-pub use calls::{call_shape, sum_over};
+pub use calls::{aggregate_for, call_shape};
 pub use leaves::leaf_shape;
-pub use operators::{binary_shape, unary_shape};
+pub use operators::{Operation, binary_shape, operation_of, unary_shape};

@@ -1,10 +1,11 @@
-//! The shapes that operators give.
+//! The shapes that operators give, and what the machine does for them.
 ghost use Rattle.std.specs.Prelude.{◌≡◌};
 ghost use Rattle.bql_rules.specs.Rules as rule;
 
 use bql_tree::{BinaryOperator, UnaryOperator};
 use query_rows::rules::{aligned, negated, of_text, of_truth};
 use query_rows::{Misfit, Shape};
+use query_values::Binary;
 
 /// What an operator gives on an operand of the shape.
 pub fn unary_shape(op: &UnaryOperator<'_>, shape: Shape) -> Result<Shape, Misfit>
@@ -30,7 +31,7 @@ fn of_truths(a: Shape, b: Shape) -> Result<Shape, Misfit>
 
 /// Two operands, of which two numbers are brought to the greater count of decimals, and what the
 /// machine's operation then gives.
-fn by_machine(op: query_values::Binary, a: Shape, b: Shape) -> Result<Shape, Misfit>
+fn by_machine(op: Binary, a: Shape, b: Shape) -> Result<Shape, Misfit>
     ensures { result ≡ rule.by_machine op a b }
 {
     match (a, b) {
@@ -44,21 +45,44 @@ fn by_machine(op: query_values::Binary, a: Shape, b: Shape) -> Result<Shape, Mis
     }
 }
 
+/// What the machine does for an operator between two values.
+#[derive(Clone, Copy, Drop, PartialEq, Eq)]
+pub enum Operation {
+    Or,
+    And,
+    /// An operation on both, of which two numbers are first brought to the greater count of decimals.
+    Aligned(Binary),
+    /// One on both as they are.
+    Plain(Binary),
+}
+
+/// What the machine does for an operator, neither of whose operands is a NULL.
+pub fn operation_of(op: BinaryOperator) -> Operation
+    ensures { result ≡ rule.operation_of op }
+{
+    match op {
+        BinaryOperator::Or => Operation::Or,
+        BinaryOperator::And => Operation::And,
+        BinaryOperator::Equal => Operation::Aligned(Binary::Equal),
+        BinaryOperator::NotEqual => Operation::Aligned(Binary::NotEqual),
+        BinaryOperator::Less => Operation::Aligned(Binary::Less),
+        BinaryOperator::LessOrEqual => Operation::Aligned(Binary::AtMost),
+        BinaryOperator::Greater => Operation::Aligned(Binary::Greater),
+        BinaryOperator::GreaterOrEqual => Operation::Aligned(Binary::AtLeast),
+        BinaryOperator::In => Operation::Plain(Binary::InSet),
+        BinaryOperator::Plus => Operation::Aligned(Binary::Add),
+        BinaryOperator::Minus => Operation::Aligned(Binary::Sub),
+        BinaryOperator::Times => Operation::Plain(Binary::Mul),
+    }
+}
+
 /// What an operator gives between operands of these shapes, neither of which is a NULL.
 pub fn binary_shape(op: BinaryOperator, a: Shape, b: Shape) -> Result<Shape, Misfit>
     ensures { result ≡ rule.binary_shape op a b }
 {
-    match op {
-        BinaryOperator::Or | BinaryOperator::And => of_truths(a, b),
-        BinaryOperator::Equal => by_machine(query_values::Binary::Equal, a, b),
-        BinaryOperator::NotEqual => by_machine(query_values::Binary::NotEqual, a, b),
-        BinaryOperator::Less => by_machine(query_values::Binary::Less, a, b),
-        BinaryOperator::LessOrEqual => by_machine(query_values::Binary::AtMost, a, b),
-        BinaryOperator::Greater => by_machine(query_values::Binary::Greater, a, b),
-        BinaryOperator::GreaterOrEqual => by_machine(query_values::Binary::AtLeast, a, b),
-        BinaryOperator::In => query_rows::binary_shape(query_values::Binary::InSet, a, b),
-        BinaryOperator::Plus => by_machine(query_values::Binary::Add, a, b),
-        BinaryOperator::Minus => by_machine(query_values::Binary::Sub, a, b),
-        BinaryOperator::Times => query_rows::binary_shape(query_values::Binary::Mul, a, b),
+    match operation_of(op) {
+        Operation::Or | Operation::And => of_truths(a, b),
+        Operation::Aligned(op) => by_machine(op, a, b),
+        Operation::Plain(op) => query_rows::binary_shape(op, a, b),
     }
 }

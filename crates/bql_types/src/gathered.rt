@@ -6,24 +6,23 @@ ghost use Rattle.bql_types.specs.Seen.{list_of};
 ghost use Rattle.query_rows.specs.ColumnShape.{AreBounds};
 
 use crate::shaped::look_at_all;
-use bql_rules::sum_over;
+use bql_rules::aggregate_for;
 use bql_tree::{Expr, Function};
 use limits::Bounds;
 use query_rows::Shape;
 use query_values::Aggregate;
 use std::alloc::{AllocError, Global};
 
-/// The aggregate that sums values of the one part, and one over amounts where there are none or
-/// more, or some have no shape.
-fn summing(shapes: Option<Vec<Shape>>) -> Aggregate
-    ensures { result ≡ rule.summing (list_of shapes) }
+/// The shape of the one part; none where there are none or more, or one has no shape.
+fn single(shapes: Option<Vec<Shape>>) -> Option<Shape>
+    ensures { result ≡ rule.single (list_of shapes) }
 {
     let Some(shapes) = shapes else {
-        return Aggregate::SumInventory(8);
+        return None;
     };
     match shapes.as_slice() {
-        [shape] => sum_over(*shape),
-        _ => Aggregate::SumInventory(8),
+        [shape] => Some(*shape),
+        _ => None,
     }
 }
 
@@ -31,14 +30,9 @@ fn summing(shapes: Option<Vec<Shape>>) -> Aggregate
 fn called_on(function: Function, shapes: Option<Vec<Shape>>) -> Aggregate
     ensures { result ≡ rule.of_call function (list_of shapes) }
 {
-    match function {
-        Function::Count => Aggregate::Count,
-        Function::Sum => summing(shapes),
-        Function::First => Aggregate::First,
-        Function::Last => Aggregate::Last,
-        Function::Min => Aggregate::Min,
-        Function::Max => Aggregate::Max,
-        _ => Aggregate::CountRows,
+    match aggregate_for(function, single(shapes)) {
+        Some(aggregate) => aggregate,
+        None => Aggregate::CountRows,
     }
 }
 

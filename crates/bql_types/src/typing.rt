@@ -1,4 +1,4 @@
-//! Queries that have a type.
+//! Whether a query has a type, and the least cause for which it has none.
 ghost use Rattle.std.specs.Prelude.{◌≡◌, IfOk};
 ghost use Rattle.bql_parser.specs.Answer.{query_of};
 ghost use Rattle.query_rows.specs.ColumnShape.{AreBounds};

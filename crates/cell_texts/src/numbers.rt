@@ -1,5 +1,5 @@
 //! Numbers whose texts were made last.
-ghost use Rattle.std.specs.Prelude.{◌≡◌, ◌++◌, ◌<◌, ◌≤◌, ℤ, ℕ, IfOk, IfSome, IsTrue, OnOk, length, take};
+ghost use Rattle.std.specs.Prelude.{◌≡◌, ◌≢◌, ◌++◌, ◌<◌, ◌≤◌, ℤ, ℕ, IfOk, IfSome, MatchBool, OnOk, length, take};
 ghost use Rattle.number_texts.specs.Digits.{number_text};
 
 use number_texts::{number_len, push_number};
@@ -22,7 +22,7 @@ pub(crate) struct Told {
 /// Whether two are told alike.
 #[inline(always)]
 fn are_one(a: Told, b: Told) -> bool
-    ensures { IsTrue result → a ≡ b }
+    ensures { MatchBool result (a ≡ b) (a ≢ b) }
 {
     a.count == b.count && a.places == b.places && a.least == b.least
 }

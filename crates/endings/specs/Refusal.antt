@@ -4,11 +4,15 @@ use Rattle.std.specs.Fmt.{decimal}
 use Rattle.bean_load.specs.LoadCause as load
 use Rattle.bean_load.specs.declared.cause.LoadCause.{LoadCause}
 use Rattle.bean_load.specs.declared.cause.LoadCause.TheVariants as loads
+use Rattle.bean_replay.specs.BookCause as book
 use Rattle.bean_replay.specs.declared.cause.BookCause.{BookCause}
+use Rattle.bean_replay.specs.declared.cause.BookCause.TheVariants as books
 use Rattle.query_code.specs.declared.cause.FileCause.{FileCause}
 use Rattle.query_files.specs.TextCause as text
 use Rattle.query_files.specs.declared.cause.TextCause.{TextCause}
+use Rattle.query_machine.specs.RunCause as run
 use Rattle.query_machine.specs.declared.cause.RunCause.{RunCause}
+use Rattle.query_machine.specs.declared.cause.RunCause.TheVariants as runs
 use Rattle.query_verifier.specs.VerifierCause as verifier
 use Rattle.query_verifier.specs.declared.cause.VerifierCause.{VerifierCause}
 use Rattle.query_verifier.specs.declared.cause.VerifierCause.TheVariants as files
@@ -44,8 +48,8 @@ code_by Words = codes "words"
 code_by (Load cause) = load.code_of cause
 code_by (Text cause) = text.code_of cause
 code_by (File cause) = verifier.code_of cause
-code_by TooManyPostings = codes "B1"
-code_by OutsideBounds = codes "M1"
+code_by TooManyPostings = book.code_of books.TooManyPostings
+code_by OutsideBounds = run.code_of runs.OutsideBounds
 
 abbrev pub code_of : Refusal → List ℕ
 code_of (Refused cause) = code_by cause

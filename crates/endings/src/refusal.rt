@@ -55,8 +55,8 @@ impl Cause {
             Cause::Load(cause) => refusals::Cause::code(&cause),
             Cause::Text(cause) => refusals::Cause::code(&cause),
             Cause::File(cause) => refusals::Cause::code(&cause),
-            Cause::TooManyPostings => "B1",
-            Cause::OutsideBounds => "M1",
+            Cause::TooManyPostings => refusals::Cause::code(&BookCause::TooManyPostings),
+            Cause::OutsideBounds => refusals::Cause::code(&RunCause::OutsideBounds),
         }
     }
 

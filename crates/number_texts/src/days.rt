@@ -1,5 +1,5 @@
 //! The texts of days.
-ghost use Rattle.std.specs.Prelude.{◌≡◌, ◌++◌, IsTrue, OnOk, replicate};
+ghost use Rattle.std.specs.Prelude.{◌≡◌, ◌≢◌, ◌++◌, MatchBool, OnOk, replicate};
 ghost use Rattle.bean_base.specs.Character.{space};
 ghost use Rattle.number_texts.specs.Digits.{day_text};
 
@@ -22,7 +22,7 @@ struct Written {
 /// Whether two days are one.
 #[inline(always)]
 pub fn are_one(first: Day, second: Day) -> bool
-    ensures { IsTrue result → day_text first ≡ day_text second }
+    ensures { MatchBool result (first ≡ second) (first ≢ second) }
 {
     // All at once: they lie beside each other.
     (first.year() == second.year())

@@ -38,15 +38,8 @@ impl<'a> Display<'a> {
         }
     }
 
-    /// The decimals of a currency.
-    pub fn places(&self, currency: &Currency<'_>) -> u8
-        ensures { result ≡ decimals_of self.now currency.now }
-    {
-        self.places_near(currency, &mut 0)
-    }
-
-    /// The same, where `near` tells at which place the last one was found that was asked for: most
-    /// often it is this one, which isn't hashed then.
+    /// The decimals of a currency. `near` tells at which place the last one was found that was asked
+    /// for: most often it is this one, which isn't hashed then.
     #[inline(always)]
     pub fn places_near(&self, currency: &Currency<'_>, near: &mut usize) -> u8
         ensures { result ≡ decimals_of self.now currency.now }

@@ -1,5 +1,5 @@
 //! The ledger: rows in order, and the display decimals.
-ghost use Rattle.std.specs.Prelude.{◌≡◌, ◌≢◌, ◌==◌, [], ◌∷◌, ◌++◌, ◌<◌, ◌≤◌, OnOk, OnErr, length};
+ghost use Rattle.std.specs.Prelude.{◌≡◌, ◌≢◌, [], ◌∷◌, ◌++◌, ◌<◌, ◌≤◌, OnOk, OnErr, length};
 ghost use Rattle.std.specs.Prelude.{All, IsTrue, Some, slice_get, true};
 ghost use Rattle.std.specs.Option.{option_map};
 ghost use Rattle.std.specs.FinMap as map;
@@ -123,13 +123,6 @@ impl<'a> Ledger<'a> {
         ensures bound { result ≤ MOST_POSTINGS }
     {
         self.rows.len()
-    }
-
-    /// Whether it holds none.
-    pub fn is_empty(&self) -> bool
-        ensures { result ≡ (length self.now.rows == 0) }
-    {
-        self.rows.len() == 0
     }
 
     /// A posting, lent from the ledger: for callers that look at several of its cells.

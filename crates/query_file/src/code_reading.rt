@@ -1,7 +1,7 @@
 //! Reading the lists of a query file, and the sections and the pool that they make.
 ghost use Rattle.std.specs.Prelude.{◌≡◌, List, length, Ok, IfOk};
 ghost use Rattle.query_code.specs.declared.cause.FileCauseKind.TheVariants.{BadField};
-ghost use Rattle.query_code.specs.ByteForm.{byte, counted, read_all, such_that};
+ghost use Rattle.query_code.specs.ByteForm.{byte, counted, read_all};
 ghost use Rattle.query_file.specs.FieldReading.{Gives};
 ghost use Rattle.query_code.specs.InstructionForm.{word, instruction};
 ghost use Rattle.query_code.specs.QueryFile.{count, day, numbers, constant, aggregate};
@@ -9,10 +9,10 @@ ghost use Rattle.query_code.specs.TextForm.{text, texts_in};
 ghost use Rattle.query_code.specs.QueryFile.{section, some_number, place_below, columns, output};
 ghost use Rattle.query_code.specs.QueryFile.{only, code};
 
-use crate::instruction_reading::instruction_at;
+use crate::fields::list_at;
 use crate::reading::{
-    byte_at, count_at, day_at, decimal_at, flag_at, limit_at, places_at, some_byte_at,
-    some_number_at, stopped, text_at, word_at,
+    byte_at, day_at, decimal_at, flag_at, limit_at, places_at, some_byte_at, some_number_at,
+    stopped, text_at, word_at,
 };
 use bean_base::{Day, List, Slice};
 use query_code::{
@@ -22,81 +22,8 @@ use query_values::Aggregate;
 use refusals::Refusal;
 use std::alloc::Global;
 
-/// So many instructions.
-pub fn instructions_at(
-    alloc: Global,
-    len: usize,
-    bytes: &[u8],
-) -> Result<(Vec<Instruction>, &[u8]), Refusal<Stop>>
-    ensures read { Gives (λ x. (x.0.items, x.1.now)) result (read_all instruction len bytes.now) }
-    ensures number { IfOk result (λ x. length x.0.items ≡ len) }
-{
-    let mut items = Vec::new(alloc);
-    let mut rest = bytes;
-    for _ in 0..len {
-        let (item, after) = instruction_at(rest)?;
-        items.push(item)?;
-        rest = after;
-    }
-    Ok((items, rest))
-}
-
-/// So many texts.
-pub fn texts_at(
-    alloc: Global,
-    len: usize,
-    bytes: &[u8],
-) -> Result<(Vec<Slice<'_>>, &[u8]), Refusal<Stop>>
-    ensures read { Gives (λ x. (x.0.items, x.1.now)) result (read_all text len bytes.now) }
-    ensures number { IfOk result (λ x. length x.0.items ≡ len) }
-{
-    let mut items = Vec::new(alloc);
-    let mut rest = bytes;
-    for _ in 0..len {
-        let (item, after) = text_at(rest)?;
-        items.push(item)?;
-        rest = after;
-    }
-    Ok((items, rest))
-}
-
-/// So many counts.
-#[tactic(auto, using(crate::proofs::RowFacts::in_a_row))]
-pub fn counts_at(
-    alloc: Global,
-    len: usize,
-    bytes: &[u8],
-) -> Result<(Vec<i128>, &[u8]), Refusal<Stop>>
-    ensures read { Gives (λ x. (x.0.items, x.1.now)) result (read_all count len bytes.now) }
-    ensures number { IfOk result (λ x. length x.0.items ≡ len) }
-{
-    let mut items = Vec::new(alloc);
-    let mut rest = bytes;
-    for _ in 0..len {
-        let (item, after) = count_at(rest)?;
-        items.push(item)?;
-        rest = after;
-    }
-    Ok((items, rest))
-}
-
-/// So many days.
-pub fn days_at(alloc: Global, len: usize, bytes: &[u8]) -> Result<(Vec<Day>, &[u8]), Refusal<Stop>>
-    ensures read { Gives (λ x. (x.0.items, x.1.now)) result (read_all day len bytes.now) }
-    ensures number { IfOk result (λ x. length x.0.items ≡ len) }
-{
-    let mut items = Vec::new(alloc);
-    let mut rest = bytes;
-    for _ in 0..len {
-        let (item, after) = day_at(rest)?;
-        items.push(item)?;
-        rest = after;
-    }
-    Ok((items, rest))
-}
-
 #[tactic(auto, unfolding(query_code::specs::QueryFile::aggregate))]
-fn aggregate_at(bytes: &[u8]) -> Result<(Aggregate, &[u8]), Refusal<Stop>>
+pub fn aggregate_at(bytes: &[u8]) -> Result<(Aggregate, &[u8]), Refusal<Stop>>
     ensures { Gives (λ x. (x.0, x.1.now)) result (aggregate.read bytes.now) }
 {
     let (kind, rest) = byte_at(bytes)?;
@@ -119,33 +46,13 @@ fn aggregate_at(bytes: &[u8]) -> Result<(Aggregate, &[u8]), Refusal<Stop>>
     }
 }
 
-/// So many aggregates.
-pub fn aggregates_at(
-    alloc: Global,
-    len: usize,
-    bytes: &[u8],
-) -> Result<(Vec<Aggregate>, &[u8]), Refusal<Stop>>
-    ensures read { Gives (λ x. (x.0.items, x.1.now)) result (read_all aggregate len bytes.now) }
-    ensures number { IfOk result (λ x. length x.0.items ≡ len) }
-{
-    let mut items = Vec::new(alloc);
-    let mut rest = bytes;
-    for _ in 0..len {
-        let (item, after) = aggregate_at(rest)?;
-        items.push(item)?;
-        rest = after;
-    }
-    Ok((items, rest))
-}
-
 #[tactic(auto, unfolding(query_code::specs::QueryFile::numbers))]
 fn numbers_at(alloc: Global, bytes: &[u8]) -> Result<(Numbers, &[u8]), Refusal<Stop>>
     ensures { Gives (λ x. (x.0, x.1.now)) result (numbers.read bytes.now) }
 {
     let (places, rest) = places_at(bytes)?;
     let (count, rest) = some_number_at(rest)?;
-    let (counts, rest) = counts_at(alloc, count as usize, rest)?;
-    let counts = List::new(counts);
+    let (counts, rest) = list_at(alloc, count as usize, rest)?;
     Ok((Numbers { places, counts }, rest))
 }
 
@@ -177,12 +84,11 @@ fn some_days_at(alloc: Global, bytes: &[u8]) -> Result<(List<Day>, &[u8]), Refus
     ensures { Gives (λ x. (x.0, x.1.now)) result ((counted some_number day).read bytes.now) }
 {
     let (count, rest) = some_number_at(bytes)?;
-    let (days, rest) = days_at(alloc, count as usize, rest)?;
-    Ok((List::new(days), rest))
+    list_at(alloc, count as usize, rest)
 }
 
 #[tactic(auto, unfolding(query_code::specs::QueryFile::constant))]
-fn constant_at(alloc: Global, bytes: &[u8]) -> Result<(Constant<'_>, &[u8]), Refusal<Stop>>
+pub fn constant_at(alloc: Global, bytes: &[u8]) -> Result<(Constant<'_>, &[u8]), Refusal<Stop>>
     ensures { Gives (λ x. (x.0, x.1.now)) result (constant.read bytes.now) }
 {
     let (kind, rest) = byte_at(bytes)?;
@@ -217,25 +123,6 @@ fn constant_at(alloc: Global, bytes: &[u8]) -> Result<(Constant<'_>, &[u8]), Ref
         }
         _ => Err(stopped(FileCauseKind::BadField, bytes)),
     }
-}
-
-/// So many entries of the pool.
-pub fn constants_at(
-    alloc: Global,
-    len: usize,
-    bytes: &[u8],
-) -> Result<(Vec<Constant<'_>>, &[u8]), Refusal<Stop>>
-    ensures read { Gives (λ x. (x.0.items, x.1.now)) result (read_all constant len bytes.now) }
-    ensures number { IfOk result (λ x. length x.0.items ≡ len) }
-{
-    let mut items = Vec::new(alloc);
-    let mut rest = bytes;
-    for _ in 0..len {
-        let (item, after) = constant_at(alloc, rest)?;
-        items.push(item)?;
-        rest = after;
-    }
-    Ok((items, rest))
 }
 
 #[tactic(auto, unfolding(query_code::specs::QueryFile::place_below))]
@@ -285,13 +172,13 @@ fn columns_at(alloc: Global, bytes: &[u8]) -> Result<(Columns<'_>, &[u8]), Refus
         (columns.read bytes.now) }
 {
     let (count, rest) = some_byte_at(bytes)?;
-    let (targets, rest) = texts_at(alloc, count as usize, rest)?;
+    let (targets, rest) = list_at(alloc, count as usize, rest)?;
     let (hidden, rest) = byte_at(rest)?;
     let (items, rest) = byte_at(rest)?;
     let most = count as usize + hidden as usize;
     let (order, rest) = order_at(alloc, most, items as usize, rest)?;
     let columns = Columns {
-        targets: List::new(targets),
+        targets,
         hidden,
         order: List::new(order),
     };
@@ -344,8 +231,7 @@ fn section_at(alloc: Global, bytes: &[u8]) -> Result<(List<Instruction>, &[u8]),
     ensures { Gives (λ x. (x.0, x.1.now)) result (section.read bytes.now) }
 {
     let (count, rest) = word_at(bytes)?;
-    let (instructions, rest) = instructions_at(alloc, count as usize, rest)?;
-    Ok((List::new(instructions), rest))
+    list_at(alloc, count as usize, rest)
 }
 
 fn grouped_aggregates_at(
@@ -357,16 +243,14 @@ fn grouped_aggregates_at(
         ((counted (only mode byte) aggregate).read bytes.now) }
 {
     let (count, rest) = byte_if_grouped_at(mode, bytes)?;
-    let (aggregates, rest) = aggregates_at(alloc, count as usize, rest)?;
-    Ok((List::new(aggregates), rest))
+    list_at(alloc, count as usize, rest)
 }
 
 fn pool_at(alloc: Global, bytes: &[u8]) -> Result<(List<Constant<'_>>, &[u8]), Refusal<Stop>>
     ensures { Gives (λ x. (x.0, x.1.now)) result ((counted word constant).read bytes.now) }
 {
     let (count, rest) = word_at(bytes)?;
-    let (pool, rest) = constants_at(alloc, count as usize, rest)?;
-    Ok((List::new(pool), rest))
+    list_at(alloc, count as usize, rest)
 }
 
 fn grouped_section_at(
@@ -378,8 +262,7 @@ fn grouped_section_at(
         ((counted (only mode word) instruction).read bytes.now) }
 {
     let (count, rest) = word_if_grouped_at(mode, bytes)?;
-    let (instructions, rest) = instructions_at(alloc, count as usize, rest)?;
-    Ok((List::new(instructions), rest))
+    list_at(alloc, count as usize, rest)
 }
 
 #[tactic(auto, unfolding(query_code::specs::QueryFile::code))]

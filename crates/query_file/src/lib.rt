@@ -24,6 +24,7 @@
 
 mod code_reading;
 mod decoding;
+mod fields;
 mod instruction_reading;
 mod reading;
 mod writing;

@@ -49,22 +49,19 @@ pub fn byte_at(bytes: &[u8]) -> Result<(u8, &[u8]), Refusal<Stop>>
 pub fn word_at(bytes: &[u8]) -> Result<(u16, &[u8]), Refusal<Stop>>
     ensures { Gives (λ x. (x.0, x.1.now)) result (word.read bytes.now) }
 {
-    if bytes.len() < 2 {
-        return Err(truncated());
+    match bytes.split_first_chunk::<2>() {
+        Some((front, rest)) => Ok((u16::from_be_bytes(*front), rest)),
+        None => Err(truncated()),
     }
-    let (front, rest) = bytes.split_at(2);
-    Ok((u16::from_be_bytes([front[0], front[1]]), rest))
 }
 
 pub fn long_at(bytes: &[u8]) -> Result<(u32, &[u8]), Refusal<Stop>>
     ensures { Gives (λ x. (x.0, x.1.now)) result (long.read bytes.now) }
 {
-    if bytes.len() < 4 {
-        return Err(truncated());
+    match bytes.split_first_chunk::<4>() {
+        Some((front, rest)) => Ok((u32::from_be_bytes(*front), rest)),
+        None => Err(truncated()),
     }
-    let (front, rest) = bytes.split_at(4);
-    let number = u32::from_be_bytes([front[0], front[1], front[2], front[3]]);
-    Ok((number, rest))
 }
 
 #[tactic(auto, unfolding(query_code::specs::QueryFile::flag))]
@@ -127,14 +124,10 @@ pub fn text_at(bytes: &[u8]) -> Result<(Slice<'_>, &[u8]), Refusal<Stop>>
 pub fn count_at(bytes: &[u8]) -> Result<(i128, &[u8]), Refusal<Stop>>
     ensures { Gives (λ x. (x.0, x.1.now)) result (count.read bytes.now) }
 {
-    if bytes.len() < 16 {
+    let Some((front, rest)) = bytes.split_first_chunk::<16>() else {
         return Err(truncated());
-    }
-    let (front, rest) = bytes.split_at(16);
-    let count = i128::from_be_bytes([
-        front[0], front[1], front[2], front[3], front[4], front[5], front[6], front[7], front[8],
-        front[9], front[10], front[11], front[12], front[13], front[14], front[15],
-    ]);
+    };
+    let count = i128::from_be_bytes(*front);
     if count == i128::MIN {
         return Err(stopped(FileCauseKind::BadField, bytes));
     }

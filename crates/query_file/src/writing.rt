@@ -1,14 +1,14 @@
 //! Writing the file of a program.
-ghost use Rattle.std.specs.Prelude.{◌≡◌, ℕ, ◌++◌, ◌<◌, ◌^◌, length, OnOk, IfOk};
-ghost use Rattle.query_code.specs.ByteForm.{byte, counted, AllFit, all_written};
+ghost use Rattle.std.specs.Prelude.{◌≡◌, ℕ, ◌++◌, OnOk, IfOk};
+ghost use Rattle.query_code.specs.ByteForm.{byte, counted, all_written};
 ghost use Rattle.query_code.specs.InstructionForm.{word, instruction};
 ghost use Rattle.query_code.specs.QueryFile.{long, count, flag, limit, mode, decimal, day};
 ghost use Rattle.query_code.specs.QueryFile.{numbers, constant, aggregate, section, place_below};
 ghost use Rattle.query_code.specs.QueryFile.{columns, output, code, bounds, parts, file, only};
-ghost use Rattle.query_code.specs.QueryFile.{version};
-ghost use Rattle.query_code.specs.QueryFile.{some_number, IsFile};
+ghost use Rattle.query_code.specs.QueryFile.{version, IsFile};
 ghost use Rattle.query_code.specs.TextForm.{text};
 
+use crate::fields::put_list;
 use bean_base::{Day, Slice};
 use limits::{Bounds, Version};
 use query_code::text_list::put_text;
@@ -37,7 +37,7 @@ fn put_long(out: &mut Vec<u8>, number: u32) -> Result<(), AllocError>
 }
 
 #[tactic(auto, unfolding(query_code::specs::QueryFile::count))]
-fn put_count(out: &mut Vec<u8>, number: i128) -> Result<(), AllocError>
+pub fn put_count(out: &mut Vec<u8>, number: i128) -> Result<(), AllocError>
     ensures { OnOk result (out.new.items ≡ out.old.items ++ count.written number) }
 {
     let bytes = number.to_be_bytes();
@@ -159,7 +159,7 @@ fn put_binary(out: &mut Vec<u8>, operation: Binary) -> Result<(), AllocError>
 }
 
 #[tactic(auto, unfolding(query_code::specs::InstructionForm::instruction, query_code::specs::InstructionForm::operand_cases, query_code::specs::InstructionForm::word_cases))]
-fn put_instruction(out: &mut Vec<u8>, step: Instruction) -> Result<(), AllocError>
+pub fn put_instruction(out: &mut Vec<u8>, step: Instruction) -> Result<(), AllocError>
     ensures { OnOk result (out.new.items ≡ out.old.items ++ instruction.written step) }
 {
     match step {
@@ -173,43 +173,6 @@ fn put_instruction(out: &mut Vec<u8>, step: Instruction) -> Result<(), AllocErro
     }
 }
 
-/// One instruction behind the other.
-fn put_instructions(out: &mut Vec<u8>, steps: &[Instruction]) -> Result<(), AllocError>
-    ensures { OnOk result (out.new.items ≡ out.old.items ++ all_written instruction steps.now) }
-{
-    let mut rest = steps;
-    while let [first, after @ ..] = rest {
-        put_instruction(out, *first)?;
-        rest = after;
-    }
-    Ok(())
-}
-
-/// One text behind the other.
-fn put_texts(out: &mut Vec<u8>, texts: &[Slice<'_>]) -> Result<(), AllocError>
-    requires { AllFit text texts.now }
-    ensures { OnOk result (out.new.items ≡ out.old.items ++ all_written text texts.now) }
-{
-    let mut rest = texts;
-    while let [first, after @ ..] = rest {
-        put_text(out, first.text())?;
-        rest = after;
-    }
-    Ok(())
-}
-
-/// One count behind the other.
-fn put_counts(out: &mut Vec<u8>, counts: &[i128]) -> Result<(), AllocError>
-    ensures { OnOk result (out.new.items ≡ out.old.items ++ all_written count counts.now) }
-{
-    let mut rest = counts;
-    while let [first, after @ ..] = rest {
-        put_count(out, *first)?;
-        rest = after;
-    }
-    Ok(())
-}
-
 #[tactic(auto, unfolding(query_code::specs::QueryFile::decimal))]
 fn put_decimal(out: &mut Vec<u8>, number: Decimal) -> Result<(), AllocError>
     ensures { OnOk result (out.new.items ≡ out.old.items ++ decimal.written number) }
@@ -219,24 +182,12 @@ fn put_decimal(out: &mut Vec<u8>, number: Decimal) -> Result<(), AllocError>
 }
 
 #[tactic(auto, unfolding(query_code::specs::QueryFile::day))]
-fn put_day(out: &mut Vec<u8>, written: Day) -> Result<(), AllocError>
+pub fn put_day(out: &mut Vec<u8>, written: Day) -> Result<(), AllocError>
     ensures { OnOk result (out.new.items ≡ out.old.items ++ day.written written) }
 {
     put_word(out, written.year() as u16)?;
     put_byte(out, written.month())?;
     put_byte(out, written.day())
-}
-
-/// One day behind the other.
-fn put_days(out: &mut Vec<u8>, days: &[Day]) -> Result<(), AllocError>
-    ensures { OnOk result (out.new.items ≡ out.old.items ++ all_written day days.now) }
-{
-    let mut rest = days;
-    while let [first, after @ ..] = rest {
-        put_day(out, *first)?;
-        rest = after;
-    }
-    Ok(())
 }
 
 #[tactic(auto, unfolding(query_code::specs::QueryFile::numbers))]
@@ -247,11 +198,11 @@ fn put_numbers(out: &mut Vec<u8>, written: &Numbers) -> Result<(), AllocError>
     let counts = written.counts.as_slice();
     put_byte(out, written.places)?;
     put_word(out, counts.len() as u16)?;
-    put_counts(out, counts)
+    put_list(out, counts)
 }
 
 #[tactic(auto, unfolding(query_code::specs::QueryFile::constant))]
-fn put_constant(out: &mut Vec<u8>, entry: &Constant<'_>) -> Result<(), AllocError>
+pub fn put_constant(out: &mut Vec<u8>, entry: &Constant<'_>) -> Result<(), AllocError>
     requires { constant.fits entry.now }
     ensures { OnOk result (out.new.items ≡ out.old.items ++ constant.written entry.now) }
 {
@@ -285,26 +236,13 @@ fn put_constant(out: &mut Vec<u8>, entry: &Constant<'_>) -> Result<(), AllocErro
             let days = days.as_slice();
             put_byte(out, 7)?;
             put_word(out, days.len() as u16)?;
-            put_days(out, days)
+            put_list(out, days)
         }
     }
 }
 
-/// One entry of the pool behind the other.
-fn put_constants(out: &mut Vec<u8>, pool: &[Constant<'_>]) -> Result<(), AllocError>
-    requires { AllFit constant pool.now }
-    ensures { OnOk result (out.new.items ≡ out.old.items ++ all_written constant pool.now) }
-{
-    let mut rest = pool;
-    while let [first, after @ ..] = rest {
-        put_constant(out, first)?;
-        rest = after;
-    }
-    Ok(())
-}
-
 #[tactic(auto, unfolding(query_code::specs::QueryFile::aggregate))]
-fn put_aggregate(out: &mut Vec<u8>, written: Aggregate) -> Result<(), AllocError>
+pub fn put_aggregate(out: &mut Vec<u8>, written: Aggregate) -> Result<(), AllocError>
     ensures { OnOk result (out.new.items ≡ out.old.items ++ aggregate.written written) }
 {
     match written {
@@ -323,18 +261,6 @@ fn put_aggregate(out: &mut Vec<u8>, written: Aggregate) -> Result<(), AllocError
         Aggregate::Min => put_byte(out, 6),
         Aggregate::Max => put_byte(out, 7),
     }
-}
-
-/// One aggregate behind the other.
-fn put_aggregates(out: &mut Vec<u8>, aggregates: &[Aggregate]) -> Result<(), AllocError>
-    ensures { OnOk result (out.new.items ≡ out.old.items ++ all_written aggregate aggregates.now) }
-{
-    let mut rest = aggregates;
-    while let [first, after @ ..] = rest {
-        put_aggregate(out, *first)?;
-        rest = after;
-    }
-    Ok(())
 }
 
 #[tactic(auto, using(crate::proofs::WrittenFacts::order_written))]
@@ -357,7 +283,7 @@ fn put_columns(
         (out.new.items ≡ out.old.items ++ columns.written (targets.now, (hidden, order.now))) }
 {
     put_byte(out, targets.len() as u8)?;
-    put_texts(out, targets)?;
+    put_list(out, targets)?;
     put_byte(out, hidden)?;
     put_byte(out, order.len() as u8)?;
     put_order(out, order)
@@ -381,7 +307,7 @@ fn put_section(out: &mut Vec<u8>, steps: &[Instruction]) -> Result<(), AllocErro
     ensures { OnOk result (out.new.items ≡ out.old.items ++ section.written steps.now) }
 {
     put_word(out, steps.len() as u16)?;
-    put_instructions(out, steps)
+    put_list(out, steps)
 }
 
 fn put_grouped_section(
@@ -396,7 +322,7 @@ fn put_grouped_section(
     // The clauses alone speak of the mode: only grouped programs have these.
     let _ = mode;
     put_word(out, steps.len() as u16)?;
-    put_instructions(out, steps)
+    put_list(out, steps)
 }
 
 fn put_grouped_aggregates(
@@ -411,7 +337,7 @@ fn put_grouped_aggregates(
     // The clauses alone speak of the mode: only grouped programs have these.
     let _ = mode;
     put_byte(out, aggregates.len() as u8)?;
-    put_aggregates(out, aggregates)
+    put_list(out, aggregates)
 }
 
 fn put_pool(out: &mut Vec<u8>, pool: &[Constant<'_>]) -> Result<(), AllocError>
@@ -420,7 +346,7 @@ fn put_pool(out: &mut Vec<u8>, pool: &[Constant<'_>]) -> Result<(), AllocError>
         (out.new.items ≡ out.old.items ++ (counted word constant).written pool.now) }
 {
     put_word(out, pool.len() as u16)?;
-    put_constants(out, pool)
+    put_list(out, pool)
 }
 
 #[tactic(auto, unfolding(query_code::specs::QueryFile::code))]

@@ -21,6 +21,20 @@ use std::mem::replace;
 /// How many steps are made at most before rows are let go of that can't come out any more.
 const STRETCH: u64 = 4096;
 
+/// The same where each row may hold a copy of the running inventory, which may be large.
+const SHORT_STRETCH: u64 = 64;
+
+/// How many steps are made at most before rows of the program are let go of.
+fn longest_stretch(input: &Inputs<'_, '_>) -> u64
+    ensures { 0 < result }
+{
+    if input.reads_running {
+        SHORT_STRETCH
+    } else {
+        STRETCH
+    }
+}
+
 /// The names of what is shown.
 fn headers_of<'r>(alloc: Global, output: &Output<'r>) -> Result<Vec<Slice<'r>>, AllocError>
     ensures { IfOk result (λ headers. headers.items ≡ output.now.targets) }
@@ -118,9 +132,10 @@ fn advance<'r>(
         → StandsAfter input.now.parts.now (rows_in input.now) (standing.old.steps + k)
         (At standing.new.steps)) }
 {
+    let longest = longest_stretch(input);
     let mut made = 0;
     while made < k && !is_done(&standing.run) {
-        made += stretch(alloc, input, standing, (k - made).min(STRETCH))?;
+        made += stretch(alloc, input, standing, (k - made).min(longest))?;
     }
     Ok(is_done(&standing.run))
 }

@@ -33,7 +33,8 @@
 //! to order by, and brought into that order once (see `query_answer`).
 //!
 //! Where rows are cut at a limit and not told once, a run keeps at most twice as many, with those of
-//! 4,096 steps: it lets go of the others on its way, most of them with one comparison each.
+//! 4,096 steps, or of 64 where rows may hold copies of the running inventory: it lets go of the others
+//! on its way, most of them with one comparison each.
 #![tactic(auto)]
 
 mod advancing;

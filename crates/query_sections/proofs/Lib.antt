@@ -1,2 +1,3 @@
 pub mod KnownFacts
 pub mod StepFacts
+pub mod OperationFacts

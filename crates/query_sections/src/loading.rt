@@ -134,8 +134,8 @@ fn value_at<'r>(values: &[Value<'r>], place: u8) -> Result<Value<'r>, AllocError
     values[place as usize].clone()
 }
 
-/// Puts what an instruction loads on the stack. Each does so by itself: a value that takes no memory
-/// goes through no `Result`.
+/// Puts what an instruction loads on the stack. Those that most queries have do so by themselves: a
+/// value that takes no memory goes through no `Result` there.
 #[inline(always)]
 fn put<'r>(
     pool: &[Constant<'r>],
@@ -239,6 +239,27 @@ fn load_column<'r>(
     Ok(())
 }
 
+/// What few instructions load.
+#[inline(always)]
+fn other_value<'r>(
+    pool: &[Constant<'r>],
+    loads: &Loads<'r, '_, '_>,
+    op: Push,
+) -> Result<Value<'r>, AllocError>
+    requires there { loaded pool.now (loads_of loads.now) op ≢ None }
+    requires other { IsOther op }
+    ensures { IfOk result (λ x. loaded pool.now (loads_of loads.now) op ≡ Some x) }
+{
+    match op {
+        Push::LoadKey(place) => value_at(loads.keys, place),
+        Push::LoadAggregate(place) => value_at(loads.aggregates, place),
+        Push::Meta(place) => Ok(posting_text(loads.posting(), key(&pool[place as usize]))),
+        Push::EntryMeta(place) => Ok(transaction_text(loads.posting(), key(&pool[place as usize]))),
+        Push::AnyMeta(place) => Ok(any_text(loads.posting(), key(&pool[place as usize]))),
+        _ => unreachable!(),
+    }
+}
+
 /// Puts on the stack what few instructions load.
 #[inline(never)]
 fn load_other<'r>(
@@ -255,34 +276,9 @@ fn load_other<'r>(
         stack.old.values ≡ Some stack.new.values) }
     ensures room { stack.new.room ≡ stack.old.room }
 {
-    match op {
-        Push::LoadKey(place) => {
-            let value = value_at(loads.keys, place)?;
-            put(pool, loads, op, value, stack);
-            Ok(())
-        }
-        Push::LoadAggregate(place) => {
-            let value = value_at(loads.aggregates, place)?;
-            put(pool, loads, op, value, stack);
-            Ok(())
-        }
-        Push::Meta(place) => {
-            let value = posting_text(loads.posting(), key(&pool[place as usize]));
-            put(pool, loads, op, value, stack);
-            Ok(())
-        }
-        Push::EntryMeta(place) => {
-            let value = transaction_text(loads.posting(), key(&pool[place as usize]));
-            put(pool, loads, op, value, stack);
-            Ok(())
-        }
-        Push::AnyMeta(place) => {
-            let value = any_text(loads.posting(), key(&pool[place as usize]));
-            put(pool, loads, op, value, stack);
-            Ok(())
-        }
-        _ => unreachable!(),
-    }
+    let value = other_value(pool, loads, op)?;
+    put(pool, loads, op, value, stack);
+    Ok(())
 }
 
 /// Puts what an instruction loads on the stack.

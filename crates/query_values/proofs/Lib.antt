@@ -1,6 +1,7 @@
 mod Examples
 mod HoldingExamples
 pub mod ArithmeticFacts
+pub mod OperandFacts
 pub mod MembershipFacts
 pub mod TotalFacts
 pub mod NumberFacts

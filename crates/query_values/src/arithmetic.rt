@@ -26,7 +26,6 @@ pub fn align<'r>(x: &Value<'_>, places: u8) -> Value<'r>
     }
 }
 
-#[tactic(auto, using(crate::proofs::ArithmeticFacts::sum_at))]
 /// The sum of two numbers of the same decimals.
 pub fn add<'r>(a: &Value<'_>, b: &Value<'_>) -> Value<'r>
     requires applies { IsTrue (are_addable a.now b.now) }
@@ -42,7 +41,6 @@ pub fn add<'r>(a: &Value<'_>, b: &Value<'_>) -> Value<'r>
     }
 }
 
-#[tactic(auto, using(crate::proofs::ArithmeticFacts::difference_at))]
 /// The difference of two numbers of the same decimals.
 pub fn sub<'r>(a: &Value<'_>, b: &Value<'_>) -> Value<'r>
     requires applies { IsTrue (are_addable a.now b.now) }

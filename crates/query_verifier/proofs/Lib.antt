@@ -1,3 +1,2 @@
 mod FileFacts
 mod VerdictFacts
-pub mod PatternFacts

@@ -83,10 +83,3 @@ IsAccepted (Ok checked) = Unit {0}
 IsAccepted (Err OutOfMemory) = Unit {0}
 IsAccepted (Err (Refused (Code cause.Pattern place))) = Unit {0}
 IsAccepted (Err (Refused c)) = ⊥
-
--- The same of a program without a file: it is well shaped, with its patterns as built; or it isn't,
--- or has a pattern.
-abbrev pub ChecksProgram : Parts → Result Checked (Refusal CodeCause) → Type 0
-ChecksProgram p (Ok checked) = checked.program.parts ≡ p
-ChecksProgram p (Err OutOfMemory) = Unit {0}
-ChecksProgram p (Err (Refused c)) = (s : Spot) × StandsAt p c s × HasNoShapes p c

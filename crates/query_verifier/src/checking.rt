@@ -5,14 +5,14 @@ ghost use Rattle.query_code.specs.QueryFile.{IsFile};
 ghost use Rattle.query_code.specs.declared.program.Parts.{Parts};
 ghost use Rattle.well_shaped.specs.Program.{IsWellShaped};
 ghost use Rattle.verify_programs.specs.Loading.{has_members};
-ghost use Rattle.query_verifier.specs.Checking.{Checks, ChecksProgram, IsAccepted, Verifies};
+ghost use Rattle.query_verifier.specs.Checking.{Checks, IsAccepted, Verifies};
 
 use crate::bounds::are_bounds;
 use crate::cause::VerifierCause;
 use crate::patterns::patterns_of;
 use crate::places::place_of;
 use bean_base::List;
-use query_code::{Parts, Program};
+use query_code::Parts;
 use query_file::decode;
 use query_values::Pattern;
 use refusals::Refusal;
@@ -81,24 +81,5 @@ pub fn check_file(alloc: Global, bytes: &[u8]) -> Result<Checked<'_>, Refusal<Ve
             cause: fault.cause,
             place: place_of(bytes, &program.parts, fault.spot),
         })),
-    }
-}
-
-/// A program that is known already, as [`check_file`] answers it of its file; or why it isn't
-/// accepted.
-pub fn check_program<'a>(
-    alloc: Global,
-    program: Program<'a>,
-) -> Result<Checked<'a>, Refusal<CodeCause>>
-    ensures { ChecksProgram program.entry.parts result }
-{
-    match verified(alloc, &program.parts) {
-        Ok(verdict) => Ok(Checked {
-            program,
-            patterns: verdict.patterns,
-            depth: verdict.depth,
-        }),
-        Err(Refusal::OutOfMemory) => Err(Refusal::OutOfMemory),
-        Err(Refusal::Refused(fault)) => Err(Refusal::Refused(fault.cause)),
     }
 }

@@ -8,8 +8,7 @@
 //!
 //! A query file may come from a stranger. [`check_file`] decodes it, builds its patterns and looks
 //! for shapes: what is known beforehand of the values at each place of its three sections. Where
-//! there are such, whoever runs the [`Checked`] that is answered needs no test. A program that was
-//! compiled here and not read needs no file: [`check_program`] takes it as it is.
+//! there are such, whoever runs the [`Checked`] that is answered needs no test.
 //!
 //! # Causes
 //!
@@ -31,4 +30,4 @@ mod patterns;
 mod places;
 
 pub use cause::VerifierCause;
-pub use checking::{check_file, check_program};
+pub use checking::check_file;
