@@ -17,7 +17,7 @@ use Rattle.refusals.specs.declared.refusal.Refusal.{Refusal}
 use Rattle.bean_load.specs.declared.cause.LoadCause.{LoadCause}
 use Rattle.bean_load.specs.declared.cause.LoadCause.TheVariants.{TooLarge, Unreadable, NotUtf8}
 use Rattle.bean_load.specs.declared.gathering.TheConstants.{DEEPEST}
-use Rattle.bean_parser.proofs.IncludesFacts.{one_list_of_includes}
+use Rattle.bean_includes.proofs.IncludesFacts.{one_list_of_includes}
 
 abbrev Are : List Reading → List Reading → Result Gathered (Refusal LoadCause) → Result Gathered (Refusal LoadCause)
     → Type 0

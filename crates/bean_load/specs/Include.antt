@@ -2,8 +2,8 @@
 use Rattle.std.specs.Prelude.{◌≡◌, ℕ, ◌==◌, ◌||◌, Bool, false, List, [], ◌∷◌, ◌++◌, map}
 use Rattle.std.specs.Prelude.{if◌then◌else◌}
 use Rattle.bean_base.specs.Character.{slash}
-use Rattle.bean_parser.specs.Includes.{AreIncludeLines}
-use Rattle.bean_parser.specs.declared.includes.IncludeLine.{IncludeLine}
+use Rattle.bean_includes.specs.Includes.{AreIncludeLines}
+use Rattle.bean_includes.specs.declared.includes.IncludeLine.{IncludeLine}
 
 -- The line of an include, and the name that it asks for.
 pub record Include : Type 0 where

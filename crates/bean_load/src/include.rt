@@ -5,8 +5,7 @@ ghost use Rattle.std.specs.String.{string_bytes};
 ghost use Rattle.bean_base.specs.Character.{slash};
 ghost use Rattle.bean_load.specs.Include.{AreIncludes, folder, include_of, joined};
 
-use bean_parser::IncludeLine;
-use bean_parser::includes::include_lines;
+use bean_includes::{IncludeLine, include_lines};
 use std::alloc::{AllocError, Global};
 use std::marker::Model;
 

@@ -11,8 +11,6 @@ pub mod WaitingFacts
 pub mod ParsedFacts
 pub mod OneTree
 pub mod OneReadingFacts
-pub mod IncludesFacts
-pub mod NoIncludeFacts
 pub mod ShortFacts
 pub mod SmallKeeping
 pub mod SmallLineFacts

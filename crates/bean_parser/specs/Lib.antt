@@ -8,7 +8,6 @@ pub mod Parsed
 pub mod Waiting
 pub mod Gathered
 pub mod OneReading
-pub mod Includes
 pub mod Taking
 pub mod Plain
 pub mod Taken

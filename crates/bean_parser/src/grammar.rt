@@ -2,7 +2,6 @@
 ghost use Rattle.std.specs.Prelude.{ℕ, List};
 ghost use Rattle.bean_lexer.specs.declared.token.Token.{Token};
 ghost use Rattle.bean_parser.specs.OneReading.{HasOneTree, HasOneReading};
-ghost use Rattle.bean_parser.specs.Includes.{HasOneListOfIncludes, IncludesAreSettings};
 
 /// A block has at most one tree.
 pub fn a_block_has_one_tree()
@@ -12,10 +11,4 @@ pub fn a_block_has_one_tree()
 /// A text says one thing: there is one list of directives and one of faults that it parses to.
 pub fn a_text_has_one_reading()
     ensures { (text : List ℕ) → HasOneReading text }
-{}
-
-/// A text has one list of include lines: those among the settings that it parses to.
-pub fn include_lines_are_settings()
-    ensures one { (text : List ℕ) → HasOneListOfIncludes text }
-    ensures settings { (text : List ℕ) → IncludesAreSettings text }
 {}

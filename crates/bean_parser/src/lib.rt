@@ -18,6 +18,9 @@
 //! A push gives its tag or entry to the transactions up to its pop, behind their own; of one tag or
 //! key the latest push that is open gives alone. A pop takes back the latest push of its name.
 //!
+//! [`next_block`] and [`read_block`] read the blocks of a text one by one, for who wants some of them
+//! alone.
+//!
 //! Names and texts are slices of the ledger's text: they cost no memory, and live as long as it
 //! does. So nothing that a text says is larger than the text, which is a law
 //! ([`texts_say_what_is_small`]).
@@ -44,7 +47,6 @@
 mod block;
 mod directives;
 mod grammar;
-pub mod includes;
 mod next;
 pub mod parse;
 mod part;
@@ -58,6 +60,8 @@ mod under;
 pub use bean_directives::{
     ApartDirective, Directive, DirectiveKind, Setting, SettingKind, Transaction,
 };
-pub use includes::IncludeLine;
+pub use block::{Outcome, read_block};
 pub use parse::Parsed;
+pub use reader::next_block;
 pub use sizes::texts_say_what_is_small;
+pub use statement::Statement;

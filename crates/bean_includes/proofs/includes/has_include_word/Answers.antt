@@ -1,9 +1,9 @@
 use Rattle.std.proofs.Common.{◌≡◌, nat_eq, false, ◌∷◌, codes, sym, ◌∙◌, ap, subst, MatchBool}
 use Rattle.std.specs.List.{starts_with}
 use Rattle.memchr.specs.Find.{FindsNeedle}
-use Rattle.bean_parser.specs.Includes.{HasIncludeWord}
-use Rattle.bean_parser.proofs.NoIncludeFacts.{searched}
-use Rattle.bean_parser.proofs.includes.has_include_word.Goals as goal
+use Rattle.bean_includes.specs.Includes.{HasIncludeWord}
+use Rattle.bean_includes.proofs.NoIncludeFacts.{searched}
+use Rattle.bean_includes.proofs.includes.has_include_word.Goals as goal
 
 pub returns-else-starts_with : goal.returns-else-starts_with
 returns-else-starts_with c =

@@ -1,6 +1,6 @@
 use Rattle.bean_parser.specs.Taking.{left_of}
-use Rattle.bean_parser.proofs.IncludesFacts.{IsRead}
-use Rattle.bean_parser.proofs.includes.include_lines.Given as goal
+use Rattle.bean_includes.proofs.IncludesFacts.{IsRead}
+use Rattle.bean_includes.proofs.includes.include_lines.Given as goal
 
 abbrev pub invariant-loop-block : goal.invariant-loop-block
 invariant-loop-block l = IsRead l.text l.lexer l.found.items

@@ -1,9 +1,9 @@
 use Rattle.std.proofs.Common.{arith, MatchBool, subst, sym}
 use Rattle.bean_parser.specs.Taking.{TakesBlock}
-use Rattle.bean_parser.specs.Includes.{AddsInclude, AreIncludeLines, HasIncludeWord}
-use Rattle.bean_parser.proofs.IncludesFacts.{one_more, ended}
-use Rattle.bean_parser.proofs.NoIncludeFacts.{none_without_word}
-use Rattle.bean_parser.proofs.includes.include_lines.Goals as goal
+use Rattle.bean_includes.specs.Includes.{AddsInclude, AreIncludeLines, HasIncludeWord}
+use Rattle.bean_includes.proofs.IncludesFacts.{one_more, ended}
+use Rattle.bean_includes.proofs.NoIncludeFacts.{none_without_word}
+use Rattle.bean_includes.proofs.includes.include_lines.Goals as goal
 
 pub returns-then-not-has_include_word : goal.returns-then-not-has_include_word
 returns-then-not-has_include_word c =

@@ -1,16 +1,14 @@
 //! The include lines of a text, without the rest of what it says.
 ghost use Rattle.std.specs.Prelude.{◌≡◌, IfOk, OnOk, MatchBool};
-ghost use Rattle.bean_parser.specs.Includes as spec;
-ghost use Rattle.bean_parser.specs.Includes.{AddsInclude, AreIncludeLines, HasIncludeWord};
-ghost use Rattle.bean_parser.specs.Includes.{IsIncludeOf};
+ghost use Rattle.bean_includes.specs.Includes as spec;
+ghost use Rattle.bean_includes.specs.Includes.{AddsInclude, AreIncludeLines, HasIncludeWord};
+ghost use Rattle.bean_includes.specs.Includes.{IsIncludeOf};
 
-use crate::block::{Outcome, read_block};
-use crate::reader::next_block;
-use crate::statement::Statement;
 use bean_base::Text;
 use bean_directives::{SettingKind, Undated, UndatedKind};
 use bean_grammar::front::after_keyword;
 use bean_lexer::{Keyword, Lexer, Token};
+use bean_parser::{Outcome, Statement, next_block, read_block};
 use memchr::memmem;
 use std::alloc::{AllocError, Global};
 

@@ -33,14 +33,14 @@ use Rattle.bean_parser.specs.Block.{begins_line, blocks, fault_line, line_of}
 use Rattle.bean_lexer.specs.ToCome.{ToCome}
 use Rattle.bean_parser.specs.Taking.{TakesBlock}
 use Rattle.bean_parser.specs.Grammar.{Dated, Undated, HasTree, HaveTree, Tree, in_body, said}
-use Rattle.bean_parser.specs.Includes.{AddsInclude, AreIncludeLines, AreIncludesOf, IsIncludeOf}
-use Rattle.bean_parser.specs.Includes.{HasOneListOfIncludes, IncludesAreSettings, with_first}
-use Rattle.bean_parser.specs.Includes.{include_in, include_of, includes_among}
+use Rattle.bean_includes.specs.Includes.{AddsInclude, AreIncludeLines, AreIncludesOf, IsIncludeOf}
+use Rattle.bean_includes.specs.Includes.{HasOneListOfIncludes, IncludesAreSettings, with_first}
+use Rattle.bean_includes.specs.Includes.{include_in, include_of, includes_among}
 use Rattle.bean_parser.specs.Outcome.{AllGive, Gives, GivesAt}
 use Rattle.bean_parser.specs.Parsed.{settings_in, settings_of}
 use Rattle.bean_parser.specs.declared.block.Outcome.{Outcome}
 use Rattle.bean_parser.specs.declared.block.Outcome.TheVariants as outcome
-use Rattle.bean_parser.specs.declared.includes.IncludeLine.{IncludeLine}
+use Rattle.bean_includes.specs.declared.includes.IncludeLine.{IncludeLine}
 use Rattle.bean_lexer.specs.declared.lexer.Lexer.{Lexer}
 use Rattle.bean_parser.specs.declared.statement.Statement.TheVariants as statement
 use Rattle.bean_parser.proofs.OneReadingFacts.{one_outcome}

@@ -1,5 +1,5 @@
-use Rattle.bean_parser.proofs.IncludesFacts.{includes_are_settings, one_list_of_includes}
-use Rattle.bean_parser.proofs.grammar.include_lines_are_settings.Goals as goal
+use Rattle.bean_includes.proofs.IncludesFacts.{includes_are_settings, one_list_of_includes}
+use Rattle.bean_includes.proofs.laws.include_lines_are_settings.Goals as goal
 
 pub returns-clause-one : goal.returns-clause-one
 returns-clause-one c = one_list_of_includes

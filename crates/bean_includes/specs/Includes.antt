@@ -16,7 +16,7 @@ use Rattle.bean_parser.specs.Outcome.{Gives}
 use Rattle.bean_parser.specs.Parsed.{IsParsed}
 use Rattle.bean_parser.specs.declared.block.Outcome.{Outcome}
 use Rattle.bean_parser.specs.declared.block.Outcome.TheVariants as outcome
-use Rattle.bean_parser.specs.declared.includes.IncludeLine.{IncludeLine}
+use Rattle.bean_includes.specs.declared.includes.IncludeLine.{IncludeLine}
 use Rattle.bean_parser.specs.declared.parse.Parsed.{Parsed}
 use Rattle.bean_parser.specs.declared.statement.Statement.TheVariants as statement
 

@@ -1,7 +1,7 @@
 use Rattle.std.proofs.Common.{sym, subst}
-use Rattle.bean_parser.specs.Includes.{IsIncludeOf}
-use Rattle.bean_parser.proofs.IncludesFacts.{given, gives_none}
-use Rattle.bean_parser.proofs.includes.include_at.Goals as goal
+use Rattle.bean_includes.specs.Includes.{IsIncludeOf}
+use Rattle.bean_includes.proofs.IncludesFacts.{given, gives_none}
+use Rattle.bean_includes.proofs.includes.include_at.Goals as goal
 
 pub returns-in_default : goal.returns-in_default
 returns-in_default c = gives_none c.args.block.now c.in_default.ensures.front

@@ -23,13 +23,13 @@ use Rattle.bean_lexer.specs.declared.token.Token.{Token}
 use Rattle.bean_grammar.specs.Lexeme.{Lexeme, begins_with_keyword, lexeme_at, lexemes}
 use Rattle.bean_parser.specs.Block.{begins_block, begins_block_at, blocks, fault_line}
 use Rattle.bean_parser.specs.Block.{is_in_column_one}
-use Rattle.bean_parser.specs.Includes.{AreIncludeLines, AreIncludesOf, IsIncludeOf, HasIncludeWord}
-use Rattle.bean_parser.specs.Includes.{include_in}
+use Rattle.bean_includes.specs.Includes.{AreIncludeLines, AreIncludesOf, IsIncludeOf, HasIncludeWord}
+use Rattle.bean_includes.specs.Includes.{include_in}
 use Rattle.bean_parser.specs.Outcome.{GivesAt}
 use Rattle.bean_parser.specs.declared.block.Outcome.{Outcome}
 use Rattle.bean_parser.specs.declared.block.Outcome.TheVariants as outcome
 use Rattle.bean_parser.specs.declared.statement.Statement.TheVariants as statement
-use Rattle.bean_parser.proofs.IncludesFacts.{gives_none}
+use Rattle.bean_includes.proofs.IncludesFacts.{gives_none}
 use Rattle.theory.specs.Cut.{put_before}
 
 -- The word stands in the first column: so a line begins with it.

@@ -1,0 +1,2 @@
+pub mod IncludesFacts
+pub mod NoIncludeFacts
