@@ -1,14 +1,16 @@
 //! What nearly all blocks begin with: a day, a sign and at most two texts, and under them lines that are an
 //! account, with a number and a currency or without. Such postings are read as the lexer finds their tokens,
 //! which are kept nowhere.
-ghost use Rattle.std.specs.Prelude.{◌≡◌, ◌<◌, ◌≤◌, [], ◌∷◌, ◌++◌, List, None, IfOk, IfSome, MatchOption, length, true};
+ghost use Rattle.std.specs.Prelude.{◌≡◌, ◌<◌, ◌≤◌, [], ◌∷◌, ◌++◌, List, IfOk, IfSome, MatchOption, length};
 ghost use Rattle.bean_lexer.specs.ToCome.{EndsLines, ToCome};
 ghost use Rattle.bean_lexer.specs.declared.kind.Kind.TheVariants as kinds;
 ghost use Rattle.bean_lexer.specs.declared.kind.Place.TheVariants as places;
 ghost use Rattle.bean_lexer.specs.declared.token.Token.{Token};
+ghost use Rattle.bean_grammar.specs.Lexeme.{lexemes};
+ghost use Rattle.bean_grammar.specs.declared.ranged.Ranged.TheVariants.{Within};
 ghost use Rattle.bean_postings.specs.declared.posting.Posting.{Posting};
+ghost use Rattle.bean_directives.specs.Head.{IsHead};
 ghost use Rattle.bean_directives.specs.declared.directive.DirectiveKind.TheVariants as directives;
-ghost use Rattle.bean_parser.specs.Block as spec;
 ghost use Rattle.bean_parser.specs.Plain.{IsFirstLine, IsPostingBehind, TakesPostings, TakesUnder};
 ghost use Rattle.bean_parser.specs.Under.{said_posting};
 
@@ -27,35 +29,14 @@ use expected_tokens::{
 };
 use std::alloc::{AllocError, Global};
 
-/// A transaction on a line, without what stands under it.
-#[inline(always)]
-fn transaction_on<'a>(line: u32, day: Day, transaction: Transaction<'a>) -> Directive<'a>
-    ensures { result ≡ record {
-      day = day;
-      line = line;
-      metadata = [];
-      kind = directives.Transaction transaction.entry;
-    } }
-{
-    Directive {
-        day,
-        line,
-        metadata: Few::new(),
-        kind: DirectiveKind::Transaction(transaction),
-    }
-}
-
-/// The transaction of a first line that isn't plain. It stays a call of its own, since nearly all are.
+/// The transaction that a first line is which isn't plain. It stays a call of its own, since nearly all are.
 #[inline(never)]
 fn other_head<'a>(
     alloc: Global,
-    number: u32,
     line: &[Token<'a>],
-) -> Result<Option<Directive<'a>>, AllocError>
-    requires number { number ≡ spec.first_line line.now }
-    requires column { spec.is_in_column_one line.now ≡ true }
-    requires no_fault { spec.fault_line line.now ≡ None }
-    ensures { IfOk result (λ found. IfSome found (IsFirstLine line.now)) }
+) -> Result<Option<(Day, Transaction<'a>)>, AllocError>
+    ensures { IfOk result (λ found. IfSome found (λ r. IsHead (lexemes line.now) (Within r.0)
+        (Within (directives.Transaction r.1)))) }
 {
     match line.get(1) {
         Some(
@@ -68,7 +49,7 @@ fn other_head<'a>(
     }
     match head(alloc, line)? {
         Some((Ranged::Within(day), Ranged::Within(kind))) => match kind.into_transaction() {
-            Ok(transaction) => Ok(Some(transaction_on(number, day, transaction))),
+            Ok(transaction) => Ok(Some((day, transaction))),
             Err(_) => Ok(None),
         },
         _ => Ok(None),
@@ -88,9 +69,18 @@ pub fn head_of<'a>(alloc: Global, line: &[Token<'a>]) -> Result<Option<Directive
     }
     // What can fail comes first, so that no transaction that was read is given up for want of memory.
     let number = kept_line(first_line(line))?;
-    match plain_head(line) {
-        Some((day, transaction)) => Ok(Some(transaction_on(number, day, transaction))),
-        None => other_head(alloc, number, line),
+    let found = match plain_head(line) {
+        Some(found) => Some(found),
+        None => other_head(alloc, line)?,
+    };
+    match found {
+        Some((day, transaction)) => Ok(Some(Directive {
+            day,
+            line: number,
+            metadata: Few::new(),
+            kind: DirectiveKind::Transaction(transaction),
+        })),
+        None => Ok(None),
     }
 }
 
