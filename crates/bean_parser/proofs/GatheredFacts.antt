@@ -158,7 +158,7 @@ bound_adds os line u b g g' is ds ss bs fs h =
       faults = fs ∙ sym (append-nil g.faults.items);
     } h)
 
--- what a plain transaction adds, and that nothing is added
+-- what a transaction adds that is read line by line, and that nothing is added
 
 pub transaction_adds :
     (before after : Lexer) (d : directives.Directive) (g g' : Gathered) → TakesDirective d before after

@@ -1,6 +1,6 @@
 -- Postings that stay while others are added behind them.
 use Rattle.std.proofs.Common.{◌≡◌, ℕ, ◌≤◌, List, [], ◌∷◌, ◌++◌, length, take, drop, refl, sym, ◌∙◌}
-use Rattle.std.proofs.Common.{ap, subst, arith}
+use Rattle.std.proofs.Common.{ap, arith}
 use Rattle.std.proofs.lemmas.List.{append-nil, length-append, take-append-le, take-append-drop}
 use Rattle.std.proofs.Math.Seq.{take-append_seam}
 use Rattle.bean_postings.specs.declared.posting.Posting.{Posting}
