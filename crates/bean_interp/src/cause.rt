@@ -2,7 +2,7 @@
 ghost use Rattle.std.specs.Prelude.{◌≡◌};
 ghost use Rattle.bean_interp.specs.Causes.{of_weighing};
 
-use refusals::Refusal;
+use refusals::{Cause, Refusal};
 use thiserror::Error;
 
 /// Why legs can't be weighed.
@@ -11,6 +11,24 @@ pub enum WeighCause {
     /// A weight, a sum of weights or an amount that is due.
     #[error("F17 too wide")]
     TooWide,
+}
+
+impl Cause for WeighCause {
+    ghost use Rattle.bean_interp.specs.Causes as rule;
+
+    ghost code_of = { rule.weighing_code };
+
+    ghost place_of = { rule.weighing_place };
+
+    fn code(&self) -> &'static str {
+        match self {
+            WeighCause::TooWide => "F17",
+        }
+    }
+
+    fn place(&self) -> Option<usize> {
+        None
+    }
 }
 
 /// Why a transaction can't be completed.
@@ -22,6 +40,25 @@ pub enum CompletionCause {
     /// A weight, a sum of weights or an amount that is due.
     #[error("F17 too wide")]
     TooWide,
+}
+
+impl Cause for CompletionCause {
+    ghost use Rattle.bean_interp.specs.Causes as rule;
+
+    ghost code_of = { rule.completion_code };
+
+    ghost place_of = { rule.completion_place };
+
+    fn code(&self) -> &'static str {
+        match self {
+            CompletionCause::LackTooMuch => "F11",
+            CompletionCause::TooWide => "F17",
+        }
+    }
+
+    fn place(&self) -> Option<usize> {
+        None
+    }
 }
 
 /// What keeps legs from being weighed keeps them from being completed.

@@ -6,3 +6,4 @@ pub mod After
 pub mod Rest
 pub mod Front
 pub mod Back
+pub mod LotCause

@@ -1,4 +1,5 @@
 //! Why a reduction isn't made.
+use refusals::Cause;
 use thiserror::Error;
 
 /// What keeps a reduction from being made.
@@ -10,4 +11,24 @@ pub enum LotCause {
     AmbiguousLots,
     #[error("F15 not enough units")]
     NotEnoughUnits,
+}
+
+impl Cause for LotCause {
+    ghost use Rattle.bean_reductions.specs.LotCause as rule;
+
+    ghost code_of = { rule.code_of };
+
+    ghost place_of = { rule.place_of };
+
+    fn code(&self) -> &'static str {
+        match self {
+            LotCause::NoLotMatches => "F13",
+            LotCause::AmbiguousLots => "F14",
+            LotCause::NotEnoughUnits => "F15",
+        }
+    }
+
+    fn place(&self) -> Option<usize> {
+        None
+    }
 }

@@ -1,5 +1,6 @@
 pub mod TextSet
 pub mod Pattern
+pub mod PatternCause
 pub mod Component
 pub mod Bag
 pub mod Own

@@ -20,10 +20,9 @@
 //!
 //! # Causes
 //!
-//! A crate tells what it refuses by an enum, or by a record of one and a place. What it prints as,
-//! it says by `Display`. Where it is what users are told, it implements [`Cause`]: [`Cause::code`] is
-//! the number that they see, and [`Cause::place`] the byte of the input that it stands at, where it
-//! has one. A cause that its caller turns into another has no need of that.
+//! A crate tells what it refuses by an enum, or by a record of one and a place, and implements
+//! [`Cause`] for it: [`Cause::code`] is the number that users see, and [`Cause::place`] the byte of
+//! the input that it stands at, where it has one. What it prints as, it says by `Display`.
 #![tactic(auto)]
 
 mod refusal;
