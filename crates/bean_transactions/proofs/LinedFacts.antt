@@ -24,16 +24,14 @@ use Rattle.bean_holdings.specs.Held.{held, lots_in}
 use Rattle.bean_holdings.proofs.LotFacts.{candidates_among_lots, lots_after, opposite_among_lots}
 use Rattle.bean_transactions.specs.Held.{left, takes_in}
 use Rattle.bean_holdings.specs.Holdings.{holding}
-use Rattle.bean_holdings.specs.Inventories.{inventory_in}
 use Rattle.bean_transactions.specs.Lined.{AreLined, IsFirstFault, IsInBraces, IsLinedByCost}
 use Rattle.bean_transactions.specs.Lined.{IsLinedByUnits, IsNext, IsReduced, Setting, is_reduction}
 use Rattle.bean_transactions.specs.Lined.{reduces}
-use Rattle.bean_transactions.specs.Lines.{IsKeeping, IsSettled}
+use Rattle.bean_transactions.specs.Lines.{IsSettled}
 use Rattle.bean_transactions.specs.Methods.{method_in}
 use Rattle.bean_transactions.specs.Outcome.{ComesOf, StopsAt}
 use Rattle.bean_holdings.specs.declared.holdings.Holdings.{Holdings}
 use Rattle.bean_transactions.specs.declared.line.Line.{Line}
-use Rattle.bean_transactions.specs.declared.lines.Lines.{Lines}
 use Rattle.bean_transactions.specs.declared.methods.Methods.{Methods}
 use Rattle.bean_transactions.specs.declared.outcome.Outcome.{Outcome}
 use Rattle.bean_transactions.specs.declared.setting.Head.{Head}
@@ -78,20 +76,20 @@ module _ (m : Method) (rest : List Position) (head : Head) (account : List ℕ) 
 
 -- what the program says of a posting, said of the setting
 pub next_of :
-    (s : Setting) (h : Holdings) (ms : Methods) (head : Head) (ls : Lines) (m : Method)
+    (s : Setting) (h : Holdings) (ms : Methods) (head : Head) (ls : List Line) (m : Method)
     (before taken : List Position) (i : ℕ) (p : Posting) (r : Result Outcome (Refusal LineFault))
-    → IsSettled s h ms head → IsKeeping h ls → m ≡ method_in ms p.account
-    → before ≡ holding h p.account → taken ≡ inventory_in ls.taken p.account
+    → IsSettled s h ms head → m ≡ method_in ms p.account → before ≡ holding h p.account
+    → taken ≡ held p.account (takes_in ls)
     → ComesOf (IsLinedByUnits m (after before taken) head p.account p.units p.details.cost i
     p.details.line) r
-    → ComesOf (IsNext s ls.lines.items i p) r
-next_of s h ms head ls m before taken i p r is keeping e f g comes =
+    → ComesOf (IsNext s ls i p) r
+next_of s h ms head ls m before taken i p r is e f g comes =
     let a = p.account in
-    let rest = left a s.before ls.lines.items in
+    let rest = left a s.before ls in
     let lots_are : after before taken ≡ lots_in rest =
     ap (λ es. after es taken) (f ∙ is.held.each a)
-    ∙ ap (after (lots_in (held a s.before))) (g ∙ keeping.takes a)
-    ∙ lots_after (held a s.before) (held a (takes_in ls.lines.items)) in
+    ∙ ap (after (lots_in (held a s.before))) g
+    ∙ lots_after (held a s.before) (held a (takes_in ls)) in
     let cost = p.details.cost in
     let line = p.details.line in
     subst (λ m. ComesOf (IsLinedByUnits m rest s.head a p.units cost i line) r)

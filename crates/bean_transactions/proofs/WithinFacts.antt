@@ -1,12 +1,12 @@
 -- What the takes of a transaction come to stays a part of what its accounts held.
 use Rattle.std.proofs.Common.{◌≡◌, ◌⊎◌, inl, inr, ◌+◌, ◌≤◌, ◌^◌, ℕ, zero, suc, ℤ, pos, ◌+ℤ◌, neg_ℤ, Bool}
-use Rattle.std.proofs.Common.{true, false, cond, List, [], ◌∷◌, ◌++◌, filter, fold, length, take}
-use Rattle.std.proofs.Common.{Option, Some, None, Result, Ok, Err, IfOk, append_assoc, refl, sym, ap, subst}
+use Rattle.std.proofs.Common.{true, false, cond, List, [], ◌∷◌, ◌++◌, drop, filter, fold, length, take}
+use Rattle.std.proofs.Common.{Option, Some, None, Result, Ok, Err, IfOk, refl, sym, ap, subst}
 use Rattle.std.proofs.Common.{◌∙◌, arith}
 use Rattle.std.specs.Int.Signed.{lt_z}
 use Rattle.std.specs.Str.{bytes_eq}
 use Rattle.std.proofs.lemmas.Int.{ints}
-use Rattle.std.proofs.lemmas.List.{append-nil, take_all}
+use Rattle.std.proofs.lemmas.List.{append-nil, take-append-drop, take_all}
 use Rattle.std.proofs.lemmas.Slice.Eq.{bytes_eq-Decides}
 use Rattle.bean_base.specs.Decimal.{scaled}
 use Rattle.bean_base.specs.declared.amounts.Amount as amounts
@@ -379,20 +379,13 @@ lined_within h m rest head a (Amount units) cost i n ps ls w own left r =
     by_cost h m rest head a units cost i n ps ls w own left r
 lined_within h m rest head a NumberAlone cost i n ps ls w own left r = absurd r
 
--- the next of some lines
-pub next_within : (h : Holdings) (old now all yielded rest : List Line) (l : Line)
-    → now ≡ old ++ yielded → all ≡ yielded ++ l ∷ rest → AreWithin h (takes_in old ++ takes_in all)
-    → AreWithin h (takes_in now ++ takes_in (l ∷ []))
-next_within h old now all yielded rest l now_is all_is w =
-    let split : takes_in old ++ takes_in all
-    ≡ (takes_in now ++ takes_in (l ∷ [])) ++ takes_in rest =
-    ap (λ m. takes_in old ++ takes_in m) all_is
-    ∙ ap (λ m. takes_in old ++ m) (takes_append yielded (l ∷ rest))
-    ∙ sym (append_assoc (takes_in old) (takes_in yielded) (takes_in (l ∷ rest)))
-    ∙ ap (λ m. m ++ takes_in (l ∷ rest)) (sym (takes_append old yielded) ∙ ap takes_in (sym now_is))
-    ∙ ap (λ m. takes_in now ++ m) (takes_append (l ∷ []) rest)
-    ∙ sym (append_assoc (takes_in now) (takes_in (l ∷ [])) (takes_in rest)) in
-    fewer_within h (takes_in now ++ takes_in (l ∷ [])) (takes_in rest) (subst (AreWithin h) split w)
+-- the takes among the first of some lines
+pub noted_within : (h : Holdings) (ls : List Line) (i : ℕ) → AreWithin h (takes_in ls)
+    → AreWithin h (takes_in (take i ls))
+noted_within h ls i w =
+    fewer_within h (takes_in (take i ls)) (takes_in (drop i ls))
+    (subst (AreWithin h)
+    (ap takes_in (sym (take-append-drop i ls)) ∙ takes_append (take i ls) (drop i ls)) w)
 
 -- what the program says of a posting
 pub within_of :

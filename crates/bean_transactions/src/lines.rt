@@ -1,6 +1,6 @@
 //! The lines of a transaction, posting by posting.
 ghost use Rattle.std.specs.Prelude.{◌≡◌, ◌≤◌, ◌^◌, ◌++◌, ◌∷◌, [], false, List, OnOk, IfOk, IfErr};
-ghost use Rattle.std.specs.Prelude.{Err, reverse};
+ghost use Rattle.std.specs.Prelude.{Err, reverse, true};
 ghost use Rattle.std.specs.List.{list_any};
 ghost use Rattle.bean_postings.specs.Posting.{is_outside_profile};
 ghost use Rattle.bean_transactions.specs.Held.{takes_in};
@@ -24,10 +24,8 @@ use bean_postings::{Cost, WrittenPosting};
 use refusals::Refusal;
 use std::alloc::{AllocError, Global};
 
-/// The lines of a transaction so far, what its takes come to in each account, which lots these leave
-/// there, and where they stand.
-pub(crate) struct Lines<'a, 's> {
-    lines: Vec<Line<'a>>,
+/// What takes come to in each account, which lots they leave there, and where these stand.
+pub(crate) struct Takes<'a, 's> {
     taken: Inventories<'a>,
     left: LotsLeft<'a>,
     rests: Rests<'a, 's>,
@@ -36,14 +34,103 @@ pub(crate) struct Lines<'a, 's> {
 }
 
 /// Written out, so that what gives one up needs to know nothing of what is in it.
-impl Drop for Lines<'_, '_> {
+impl Drop for Takes<'_, '_> {
     fn drop(self) {
-        let Lines {
-            lines: _,
+        let Takes {
             taken: _,
             left: _,
             rests: _,
             nothing: _,
+        } = self;
+    }
+}
+
+impl<'a, 's> Takes<'a, 's> {
+    /// No takes. Takes no memory.
+    fn none(alloc: Global, nothing: &'s Inventory<'a>) -> Takes<'a, 's>
+        requires { nothing.now ≡ [] }
+        ensures { (h : holdings.Holdings) → HasTaken h [] result }
+    {
+        Takes {
+            taken: Inventories::new(alloc),
+            left: LotsLeft::new(alloc),
+            rests: Rests::new(alloc),
+            nothing,
+        }
+    }
+
+    /// Adds a take.
+    fn add(
+        &mut self,
+        alloc: Global,
+        holdings: &'s Holdings<'a>,
+        take: &Posted<'a>,
+    ) -> Result<(), AllocError>
+        requires bounded { IsBounded holdings.now }
+        requires few { additions_in holdings.now ≤ 2 ^ 40 }
+        requires within { (ps : List Posted) × HasTaken holdings.now ps self.old
+            × AreWithin holdings.now (ps ++ take.now ∷ []) }
+        ensures { (ps : List Posted) → HasTaken holdings.now ps self.old
+            → AreWithin holdings.now (ps ++ take.now ∷ [])
+            → OnOk result (HasTaken holdings.now (ps ++ take.now ∷ []) self.new) }
+    {
+        let key = take.key();
+        let held = holdings.of(&take.account, self.nothing);
+        let taken = self.taken.of(&take.account, self.nothing);
+        let count = take.units.number.scaled(8);
+        self.left.note(&take.account, held, taken, &key, count)?;
+        let rest = self.rests.before_take(&take.account, held, taken, &key);
+        self.taken.post(alloc, take, 0)?;
+        match rest {
+            Some(rest) => {
+                let taken = self.taken.of(&take.account, self.nothing);
+                self.rests
+                    .set(take.account.lend(), without_gone(rest, taken))
+            }
+            None => Ok(()),
+        }
+    }
+
+    /// Adds what a line takes, if anything.
+    fn note(
+        &mut self,
+        alloc: Global,
+        holdings: &'s Holdings<'a>,
+        line: &Line<'a>,
+    ) -> Result<(), AllocError>
+        requires bounded { IsBounded holdings.now }
+        requires few { additions_in holdings.now ≤ 2 ^ 40 }
+        requires within { (ps : List Posted) × HasTaken holdings.now ps self.old
+            × AreWithin holdings.now (ps ++ takes_in (line.now ∷ [])) }
+        ensures { (ps : List Posted) → HasTaken holdings.now ps self.old
+            → AreWithin holdings.now (ps ++ takes_in (line.now ∷ []))
+            → OnOk result (HasTaken holdings.now (ps ++ takes_in (line.now ∷ [])) self.new) }
+    {
+        match line {
+            Line::Take(take) => self.add(alloc, holdings, take),
+            _ => Ok(()),
+        }
+    }
+}
+
+/// The lines of a transaction so far.
+///
+/// What is left of a lot is asked for by a posting with a cost in braces alone, and few transactions
+/// have one behind a take. So takes are added up only once such a posting is met.
+pub(crate) struct Lines<'a, 's> {
+    lines: Vec<Line<'a>>,
+    /// How many of the lines were gone through for their takes.
+    noted: usize,
+    takes: Takes<'a, 's>,
+}
+
+/// Written out, so that what gives one up needs to know nothing of what is in it.
+impl Drop for Lines<'_, '_> {
+    fn drop(self) {
+        let Lines {
+            lines: _,
+            noted: _,
+            takes: _,
         } = self;
     }
 }
@@ -67,10 +154,8 @@ impl<'a, 's> Lines<'a, 's> {
     {
         Lines {
             lines: Vec::new(alloc),
-            taken: Inventories::new(alloc),
-            left: LotsLeft::new(alloc),
-            rests: Rests::new(alloc),
-            nothing,
+            noted: 0,
+            takes: Takes::none(alloc, nothing),
         }
     }
 
@@ -80,127 +165,66 @@ impl<'a, 's> Lines<'a, 's> {
     {
         let Lines {
             lines,
-            taken: _,
-            left: _,
-            rests: _,
-            nothing: _,
+            noted: _,
+            takes: _,
         } = self;
         lines
     }
 
-    /// Adds a take to what is taken.
-    fn note_take(
-        &mut self,
-        alloc: Global,
-        holdings: &'s Holdings<'a>,
-        take: &Posted<'a>,
-    ) -> Result<(), AllocError>
+    /// Adds up the takes that weren't added up yet.
+    fn note_takes(&mut self, alloc: Global, holdings: &'s Holdings<'a>) -> Result<(), AllocError>
         requires keeping { IsKeeping holdings.now self.old }
         requires bounded { IsBounded holdings.now }
         requires few { additions_in holdings.now ≤ 2 ^ 40 }
-        requires within { AreWithin holdings.now (takes_in self.old.lines.items ++ take.now ∷ []) }
-        ensures lines { OnOk result (self.new.lines ≡ self.old.lines) }
-        ensures taken { OnOk result
-            (HasTaken holdings.now (takes_in self.old.lines.items ++ take.now ∷ []) self.new) }
-    {
-        let key = take.key();
-        let held = holdings.of(&take.account, self.nothing);
-        let taken = self.taken.of(&take.account, self.nothing);
-        let count = take.units.number.scaled(8);
-        self.left.note(&take.account, held, taken, &key, count)?;
-        let rest = self.rests.before_take(&take.account, held, taken, &key);
-        self.taken.post(alloc, take, 0)?;
-        match rest {
-            Some(rest) => {
-                let taken = self.taken.of(&take.account, self.nothing);
-                self.rests
-                    .set(take.account.lend(), without_gone(rest, taken))
-            }
-            None => Ok(()),
-        }
-    }
-
-    /// Adds what a line takes to what is taken.
-    fn note(
-        &mut self,
-        alloc: Global,
-        holdings: &'s Holdings<'a>,
-        line: &Line<'a>,
-    ) -> Result<(), AllocError>
-        requires keeping { IsKeeping holdings.now self.old }
-        requires bounded { IsBounded holdings.now }
-        requires few { additions_in holdings.now ≤ 2 ^ 40 }
-        requires within { AreWithin holdings.now
-            (takes_in self.old.lines.items ++ takes_in (line.now ∷ [])) }
-        ensures lines { OnOk result (self.new.lines ≡ self.old.lines) }
-        ensures taken { OnOk result
-            (HasTaken holdings.now (takes_in (self.old.lines.items ++ line.now ∷ [])) self.new) }
-    {
-        match line {
-            Line::Take(take) => self.note_take(alloc, holdings, take),
-            _ => Ok(()),
-        }
-    }
-
-    fn push(
-        &mut self,
-        alloc: Global,
-        holdings: &'s Holdings<'a>,
-        line: Line<'a>,
-    ) -> Result<(), AllocError>
-        requires keeping { IsKeeping holdings.now self.old }
-        requires bounded { IsBounded holdings.now }
-        requires few { additions_in holdings.now ≤ 2 ^ 40 }
-        requires within { AreWithin holdings.now
-            (takes_in self.old.lines.items ++ takes_in (line ∷ [])) }
-        ensures lines { OnOk result
-            (self.new.lines.items ≡ self.old.lines.items ++ line.entry ∷ []) }
+        ensures lines { OnOk result (self.new.lines.items ≡ self.old.lines.items) }
         ensures keeping { OnOk result (IsKeeping holdings.now self.new) }
+        ensures taken { OnOk result
+            (HasTaken holdings.now (takes_in self.new.lines.items) self.new.takes) }
     {
-        self.note(alloc, holdings, &line)?;
-        self.lines.push(line)?;
-        Ok(())
-    }
-
-    fn push_all(
-        &mut self,
-        alloc: Global,
-        holdings: &'s Holdings<'a>,
-        lines: Vec<Line<'a>>,
-    ) -> Result<(), AllocError>
-        requires keeping { IsKeeping holdings.now self.old }
-        requires bounded { IsBounded holdings.now }
-        requires few { additions_in holdings.now ≤ 2 ^ 40 }
-        requires within { AreWithin holdings.now
-            (takes_in self.old.lines.items ++ takes_in lines.items) }
-        ensures lines { OnOk result
-            (self.new.lines.items ≡ self.old.lines.items ++ lines.entry.items) }
-        ensures keeping { OnOk result (IsKeeping holdings.now self.new) }
-    {
-        for line in lines {
-            self.push(alloc, holdings, line)?;
+        while self.noted < self.lines.len() {
+            self.takes.note(alloc, holdings, &self.lines[self.noted])?;
+            self.noted += 1;
         }
         Ok(())
     }
 
-    fn add(
+    /// Adds them up where the next posting asks for what is left of lots.
+    fn prepare(
         &mut self,
         alloc: Global,
         holdings: &'s Holdings<'a>,
-        outcome: Outcome<'a>,
+        posting: &WrittenPosting<'a>,
     ) -> Result<(), AllocError>
         requires keeping { IsKeeping holdings.now self.old }
         requires bounded { IsBounded holdings.now }
         requires few { additions_in holdings.now ≤ 2 ^ 40 }
-        requires within { AreWithin holdings.now
-            (takes_in self.old.lines.items ++ takes_in (spec.lines_of outcome)) }
+        ensures lines { OnOk result (self.new.lines.items ≡ self.old.lines.items) }
+        ensures keeping { OnOk result (IsKeeping holdings.now self.new) }
+        ensures taken { OnOk result (is_lot posting.now.details.cost ≡ true
+            → HasTaken holdings.now (takes_in self.new.lines.items) self.new.takes) }
+    {
+        if is_in_braces(posting) {
+            return self.note_takes(alloc, holdings);
+        }
+        Ok(())
+    }
+
+    /// Adds what comes of a posting.
+    fn add(&mut self, outcome: Outcome<'a>) -> Result<(), AllocError>
         ensures lines { OnOk result
             (self.new.lines.items ≡ self.old.lines.items ++ spec.lines_of outcome.entry) }
-        ensures keeping { OnOk result (IsKeeping holdings.now self.new) }
+        ensures noted { self.new.noted ≡ self.old.noted }
+        ensures takes { self.new.takes ≡ self.old.takes }
     {
         match outcome {
-            Outcome::Line(line) => self.push(alloc, holdings, line),
-            Outcome::Takes(lines) => self.push_all(alloc, holdings, lines),
+            Outcome::Line(line) => {
+                self.lines.push(line)?;
+                Ok(())
+            }
+            Outcome::Takes(lines) => {
+                let mut lines = lines;
+                self.lines.append(&mut lines)
+            }
         }
     }
 
@@ -214,7 +238,10 @@ impl<'a, 's> Lines<'a, 's> {
         index: usize,
         posting: &WrittenPosting<'a>,
     ) -> Result<Outcome<'a>, Refusal<LineFault>>
-        requires keeping { IsKeeping holdings.now self.now }
+        requires nothing { self.now.takes.nothing.now ≡ [] }
+        requires within { AreWithin holdings.now (takes_in self.now.lines.items) }
+        requires taken { is_lot posting.now.details.cost ≡ true
+            → HasTaken holdings.now (takes_in self.now.lines.items) self.now.takes }
         requires bounded { IsBounded holdings.now }
         requires few { additions_in holdings.now ≤ 2 ^ 40 }
         requires inside { is_outside_profile posting.now ≡ false }
@@ -223,22 +250,23 @@ impl<'a, 's> Lines<'a, 's> {
         ensures within { IfOk result (λ outcome. AreWithin holdings.now
             (takes_in self.now.lines.items ++ takes_in (spec.lines_of outcome))) }
     {
+        let takes = &self.takes;
         if !is_in_braces(posting) {
-            let stock = Stock::of_nothing(self.nothing, &self.left, &self.rests);
+            let stock = Stock::of_nothing(takes.nothing, &takes.left, &takes.rests);
             return outcome_of(alloc, stock, head, index, posting);
         }
         let account = posting.account();
         let stock = Stock {
             method: methods.of(account),
-            held: holdings.of(account, self.nothing),
-            taken: self.taken.of(account, self.nothing),
-            left: &self.left,
-            rests: &self.rests,
+            held: holdings.of(account, takes.nothing),
+            taken: takes.taken.of(account, takes.nothing),
+            left: &takes.left,
+            rests: &takes.rests,
         };
         outcome_of(alloc, stock, head, index, posting)
     }
 
-    /// Adds what comes of a posting.
+    /// Adds what comes of the next posting.
     fn add_next(
         &mut self,
         alloc: Global,
@@ -260,9 +288,10 @@ impl<'a, 's> Lines<'a, 's> {
             → IsSettled s holdings.now methods.now head
             → StopsWith (IsNext s self.old.lines.items index posting.now) stop) }
     {
+        self.prepare(alloc, holdings, posting)?;
         match self.next(alloc, holdings, methods, head, index, posting) {
             Ok(outcome) => {
-                self.add(alloc, holdings, outcome)?;
+                self.add(outcome)?;
                 Ok(())
             }
             Err(stop) => Err(stop),

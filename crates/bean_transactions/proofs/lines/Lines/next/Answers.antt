@@ -1,4 +1,4 @@
-use Rattle.std.proofs.Common.{◌∙◌, ap}
+use Rattle.std.proofs.Common.{◌∙◌, ap, sym}
 use Rattle.bean_holdings.specs.Holdings.{holding}
 use Rattle.bean_holdings.specs.Inventories.{inventory_in}
 use Rattle.bean_reductions.specs.After.{after}
@@ -19,17 +19,19 @@ outcome_of-requires-2-clause-small c =
           (c.of-2.ensures ∙ ap (holding h) c.account-account.ensures) c.requires.bounded c.requires.few;
       taken =
           small_taken h a ps c.of-2.result.now c.of-3.result.now
-          (c.of-3.ensures ∙ ap (inventory_in c.args.self.now.taken) c.account-account.ensures
-          ∙ c.requires.keeping.takes a) c.requires.keeping.within c.requires.bounded c.requires.few;
+          (c.of-3.ensures ∙ ap (inventory_in c.args.self.now.takes.taken) c.account-account.ensures
+          ∙ (c.requires.taken (sym c.is_in_braces.ensures ∙ c.if-not-is_in_braces.false)).takes a) c.requires.within c.requires.bounded c.requires.few;
     }
 
 pub returns-clause-comes : goal.returns-clause-comes
 returns-clause-comes c = λ s is.
-    next_of s c.args.holdings.now c.args.methods.now c.args.head c.args.self.now _ _ _ c.args.index
-    c.args.posting.now c.outcome_of-2.result is c.requires.keeping
+    next_of s c.args.holdings.now c.args.methods.now c.args.head c.args.self.now.lines.items _ _ _
+    c.args.index c.args.posting.now c.outcome_of-2.result is
     (c.of.ensures ∙ ap (method_in c.args.methods.now) c.account-account.ensures)
     (c.of-2.ensures ∙ ap (holding c.args.holdings.now) c.account-account.ensures)
-    (c.of-3.ensures ∙ ap (inventory_in c.args.self.now.taken) c.account-account.ensures)
+    (c.of-3.ensures ∙ ap (inventory_in c.args.self.now.takes.taken) c.account-account.ensures
+    ∙ (c.requires.taken (sym c.is_in_braces.ensures ∙ c.if-not-is_in_braces.false)).takes
+    c.args.posting.now.account)
     c.outcome_of-2.ensures
 
 pub returns-clause-within : goal.returns-clause-within
@@ -37,10 +39,10 @@ returns-clause-within c =
     let h = c.args.holdings.now in
     let a = c.args.posting.now.account in
     within_of h _ _ c.args.head c.args.posting.now c.args.index
-    (takes_in c.args.self.now.lines.items) c.outcome_of-2.result c.requires.keeping.within
+    (takes_in c.args.self.now.lines.items) c.outcome_of-2.result c.requires.within
     (c.requires.bounded.inventories a)
     (λ lot.
     ap (λ es. after es c.of-3.result.now) (c.of-2.ensures ∙ ap (holding h) c.account-account.ensures)
-    ∙ ap (after _) (c.of-3.ensures ∙ ap (inventory_in c.args.self.now.taken) c.account-account.ensures
-    ∙ c.requires.keeping.takes a))
+    ∙ ap (after _) (c.of-3.ensures ∙ ap (inventory_in c.args.self.now.takes.taken) c.account-account.ensures
+    ∙ (c.requires.taken (sym c.is_in_braces.ensures ∙ c.if-not-is_in_braces.false)).takes a))
     c.outcome_of-2.ensures
