@@ -1,86 +1,81 @@
 use Rattle.std.proofs.Common.{◌≡◌, ◌<◌, ◌^◌, ◌+ℤ◌, ◌&&◌, ◌==◌, ℤ, pos, ℕ, List, Bool, true, false, cond}
-use Rattle.std.proofs.Common.{refl, ap, ◌∙◌, sym, subst, Option, Some, None, unwrap_or, arith}
+use Rattle.std.proofs.Common.{refl, ap, ◌∙◌, sym, subst, unwrap_or, arith, slice_get}
 use Rattle.std.proofs.Common.{to_z, of_z}
 use Rattle.std.specs.Int.{w128}
 use Rattle.std.specs.Int.RustNames.{unsigned_abs}
-use Rattle.std.specs.Option.{is_some}
+use Rattle.std.specs.Map.{values_of}
 use Rattle.std.specs.Str.{bytes_eq}
 use Rattle.std.proofs.lemmas.Bool.{eqb-true}
 use Rattle.std.proofs.lemmas.Int.{ints}
 use Rattle.std.proofs.lemmas.Slice.Eq.{bytes_eq-Decides}
+use Rattle.indexmap.specs.IndexMap.{set_value_at}
+use Rattle.indexmap.proofs.MapLemmas.{OnOk-map}
 use Rattle.bean_pad.specs.Counts.{count_at}
 use Rattle.bean_pad.specs.declared.counts.At.{At}
-use Rattle.bean_pad.proofs.SlotFacts.{written}
+use Rattle.bean_pad.proofs.SlotFacts.{count_there, put_or_before, written}
 use Rattle.bean_pad.proofs.counts.Counts.add.Goals as goal
 
-chosen : (a b : Bool) (f : ℕ → List ℕ → ℤ) (x v : ℕ) (y w : List ℕ) (n sum : ℤ) (before : Option ℤ)
-    → (a ≡ true → x ≡ v) → (b ≡ true → y ≡ w)
-    → sum ≡ f x y +ℤ n → unwrap_or before (pos 0) ≡ f v w
-    → unwrap_or (cond (a && b) (Some sum) before) (pos 0) ≡ cond (a && b) (f v w +ℤ n) (f v w)
-chosen true true f x v y w n sum before p q s e =
+chosen : (a b : Bool) (f : ℕ → List ℕ → ℤ) (x v : ℕ) (y w : List ℕ) (n sum : ℤ)
+    → (a ≡ true → x ≡ v) → (b ≡ true → y ≡ w) → sum ≡ f x y +ℤ n
+    → cond (a && b) sum (f v w) ≡ cond (a && b) (f v w +ℤ n) (f v w)
+chosen true true f x v y w n sum p q s =
     s ∙ ap (λ x. f x y +ℤ n) (p refl) ∙ ap (λ y. f v y +ℤ n) (q refl)
-chosen true false f x v y w n sum before p q s e = e
-chosen false b f x v y w n sum before p q s e = e
+chosen true false f x v y w n sum p q s = refl
+chosen false b f x v y w n sum p q s = refl
 
-set_or_before : (f : ℕ → List ℕ → ℤ) (x v : ℕ) (l y w : List ℕ) (n sum : ℤ) (before : Option ℤ)
-    → l ≡ y → sum ≡ f x y +ℤ n → unwrap_or before (pos 0) ≡ f v w
-    → unwrap_or (cond ((x == v) && bytes_eq l w) (Some sum) before) (pos 0)
+set_or_before : (f : ℕ → List ℕ → ℤ) (x v : ℕ) (l y w : List ℕ) (n sum : ℤ) → l ≡ y
+    → sum ≡ f x y +ℤ n
+    → cond ((x == v) && bytes_eq l w) sum (f v w)
     ≡ cond ((x == v) && bytes_eq y w) (f v w +ℤ n) (f v w)
-set_or_before f x v l y w n sum before q s e =
+set_or_before f x v l y w n sum q s =
     rw q
-    (chosen (x == v) (bytes_eq y w) f x v y w n sum before (eqb-true x v)
-    (bytes_eq-Decides y w).0 s e)
-
-nothing : (o : Option ℤ) → false ≡ is_some o → unwrap_or o (pos 0) ≡ pos 0
-nothing None h = refl
-nothing (Some n) h = cc
-
--- what stands under a number and a currency
-at_currency : (f : At → ℤ) (number : ℕ) (c currency : List ℕ) → c ≡ currency
-    → f (record { number = number; currency = currency }) ≡ f (record { number = number; currency = c })
-at_currency f number c currency q = λ i. f (record { number = number; currency = sym q i })
+    (chosen (x == v) (bytes_eq y w) f x v y w n sum (eqb-true x v) (bytes_eq-Decides y w).0 s)
 
 pub returns-in_default-clause-added : goal.returns-in_default-clause-added
-returns-in_default-clause-added c = λ n d.
-    let t = c.args.self.now in
+returns-in_default-clause-added c =
+    let counts = c.args.self.now.by_number.entries in
     let number = c.args.number in
     let lent = c.lend.ensures in
-    let none : count_at t.by_number.entries number c.args.currency.now ≡ pos 0 =
-    at_currency (λ s. count_at t.by_number.entries s.number s.currency) number _ _ lent
-    ∙ nothing _ c.in_default.ensures.found in
+    let none : count_at counts number c.args.currency.now ≡ pos 0 =
+    ap (count_at counts number) (sym lent) ∙ c.in_default.ensures.none in
     let sum : to_z w128 (of_z w128 c.args.count)
-    ≡ count_at t.by_number.entries number c.args.currency.now +ℤ c.args.count =
+    ≡ count_at counts number c.args.currency.now +ℤ c.args.count =
     omega (arith, ints, none) in
-    ap (λ o. unwrap_or o (pos 0))
-    (c.in_ok-insert.ensures.updates.0 (record { number = n; currency = d }))
-    ∙ set_or_before (count_at t.by_number.entries) number n _ _ d c.args.count _ _ lent sum refl
+    OnOk-map c.begin.result _ _ (λ begun n d.
+    begun n d ∙ set_or_before (count_at counts) number n _ _ d c.args.count _ lent sum)
+    c.begin.ensures.begun
 
 pub overflow_add-index_mut : goal.overflow_add-index_mut
 overflow_add-index_mut c =
-    let t = c.args.self.now in
-    let held : count_at t.by_number.entries c.args.number c.args.currency.now ≡ c.index_mut.result.now =
-    at_currency (λ s. count_at t.by_number.entries s.number s.currency) c.args.number _ _ c.lend.ensures
-    ∙ ap (λ o. unwrap_or o (pos 0)) (sym c.in-Some.ensures.value ∙ c.index_mut.ensures.value) in
+    let counts = c.args.self.now.by_number.entries in
+    let held : count_at counts c.args.number c.args.currency.now ≡ c.index_mut.result.now =
+    count_there counts c.args.number _ _ c.in-Some.place _ c.lend.ensures c.in-Some.ensures.some
+    (ap (λ es. slice_get (values_of es) c.in-Some.place) (sym c.note_place.ensures)
+    ∙ c.index_mut.ensures.value) in
     let far : unsigned_abs c.index_mut.result.now < 2 ^ 126 =
     subst (λ n. unsigned_abs n < 2 ^ 126) held c.requires.held in
     omega (arith, ints, far, c.requires.small)
 
 pub returns-clause-added : goal.returns-clause-added
 returns-clause-added c = λ n d.
-    let t = c.args.self.now in
+    let counts = c.args.self.now.by_number.entries in
     let number = c.args.number in
     let lent = c.lend.ensures in
-    let held : count_at t.by_number.entries number c.args.currency.now ≡ c.index_mut.result.now =
-    at_currency (λ s. count_at t.by_number.entries s.number s.currency) number _ _ lent
-    ∙ ap (λ o. unwrap_or o (pos 0)) (sym c.in-Some.ensures.value ∙ c.index_mut.ensures.value) in
+    let at : At = record { number = number; currency = c.lend.result } in
+    let held : count_at counts number c.args.currency.now ≡ c.index_mut.result.now =
+    count_there counts number _ _ c.in-Some.place _ lent c.in-Some.ensures.some
+    (ap (λ es. slice_get (values_of es) c.in-Some.place) (sym c.note_place.ensures)
+    ∙ c.index_mut.ensures.value) in
     let far : unsigned_abs c.index_mut.result.now < 2 ^ 126 =
     subst (λ n. unsigned_abs n < 2 ^ 126) held c.requires.held in
-    let sum :
+    let new =
     to_z w128
-    (of_z w128 (to_z w128 (of_z w128 c.index_mut.result.now) +ℤ to_z w128 (of_z w128 c.args.count)))
-    ≡ count_at t.by_number.entries number c.args.currency.now +ℤ c.args.count =
+    (of_z w128 (to_z w128 (of_z w128 c.index_mut.result.now) +ℤ to_z w128 (of_z w128 c.args.count))) in
+    let sum : new ≡ count_at counts number c.args.currency.now +ℤ c.args.count =
     omega (arith, ints, held, far, c.requires.small) in
-    ap (λ o. unwrap_or o (pos 0))
-    (written t.by_number.entries (record { number = number; currency = c.lend.result }) (record { number = n; currency = d }) c.in-Some.index _
-    (sym c.in-Some.ensures.index))
-    ∙ set_or_before (count_at t.by_number.entries) number n _ _ d c.args.count _ _ lent sum refl
+    ap (λ es. count_at (set_value_at es c.in-Some.place new) n d) c.note_place.ensures
+    ∙ ap (λ o. unwrap_or o (pos 0))
+    (written counts at (record { number = n; currency = d }) c.in-Some.place new
+    c.in-Some.ensures.some)
+    ∙ put_or_before ((number == n) && bytes_eq c.lend.result d) new _
+    ∙ set_or_before (count_at counts) number n _ _ d c.args.count new lent sum
