@@ -4,3 +4,4 @@ pub mod HeldFacts
 pub mod LotsLeftFacts
 pub mod RestFacts
 pub mod BoundFacts
+pub mod TakesFacts

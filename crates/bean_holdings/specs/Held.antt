@@ -1,5 +1,5 @@
 -- What accounts hold, by what was booked.
-use Rattle.std.specs.Prelude.{ℕ, ℤ, Bool, List, [], fold, filter}
+use Rattle.std.specs.Prelude.{ℕ, Bool, List, [], fold, filter}
 use Rattle.std.specs.Option.{is_some}
 use Rattle.std.specs.Str.{bytes_eq}
 use Rattle.bean_base.specs.Counts.{at_8}

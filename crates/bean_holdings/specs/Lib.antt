@@ -4,3 +4,4 @@ pub mod Holdings
 pub mod Parts
 pub mod LotsLeft
 pub mod Rests
+pub mod Takes

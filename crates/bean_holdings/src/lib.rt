@@ -13,8 +13,8 @@
 //! posting whose units have no lot is only counted.
 //!
 //! What a transaction takes of lots isn't taken from what is held until all of it is known: its
-//! takes are summed up beside, in [`Inventories`] of their own. [`LotsLeft`] tells how many lots of
-//! each sign these leave, and [`Rests`] where they stand.
+//! [`Takes`] are summed up beside, in [`Inventories`] of their own. [`LotsLeft`] tells how many lots
+//! of each sign these leave, and [`Rests`] where they stand.
 //!
 //! # Cost
 //!
@@ -34,9 +34,11 @@ mod known;
 mod lots_left;
 mod posted;
 mod rests;
+mod takes;
 
 pub use holdings::Holdings;
 pub use inventories::Inventories;
 pub use lots_left::LotsLeft;
 pub use posted::Posted;
-pub use rests::{Rests, without_gone};
+pub use rests::Rests;
+pub use takes::Takes;

@@ -86,7 +86,10 @@ fn without_last_gone<'s, 'a>(rest: Positions<'a, 's>, taken: &Inventory<'_>) -> 
 }
 
 /// A rest without the positions at both ends of which nothing is left.
-pub fn without_gone<'s, 'a>(rest: Positions<'a, 's>, taken: &Inventory<'_>) -> Positions<'a, 's>
+pub(crate) fn without_gone<'s, 'a>(
+    rest: Positions<'a, 's>,
+    taken: &Inventory<'_>,
+) -> Positions<'a, 's>
     requires rest { AreSmall (2 ^ 125) rest }
     requires taken { AreSmall (2 ^ 125) taken.now }
     ensures { HasAllLeft taken.now result rest.entry }

@@ -13,3 +13,4 @@ pub mod DueFacts
 pub mod PrecisionFacts
 mod SumsFacts
 mod WeightFacts
+pub mod LastFacts

@@ -292,6 +292,24 @@ impl<'a> Scales<'a> {
         }
     }
 
+    /// What a last leg takes that lacks its amount, behind so many legs that lack nothing: these lie on
+    /// the scales, and their decimals are noted.
+    pub fn fill_last(
+        &self,
+        alloc: Global,
+        last: usize,
+    ) -> Result<List<Fill<'a>>, Refusal<CompletionCause>>
+        ensures { (legs : prelude.List Leg) → list_all is_whole legs ≡ true → length legs ≡ last
+            → AreSet self.now legs → Completes (legs ++ leg.MissingAmount ∷ []) result }
+    {
+        // Most lack one currency.
+        let mut fills = Vec::with_capacity(alloc, 1)?;
+        match self.fill_lacking(last, &mut fills) {
+            Ok(()) => Ok(List::new(fills)),
+            Err(fault) => Err(completion_refusal(fault)),
+        }
+    }
+
     /// Whether the sum at an index is no more than the tolerance of its currency.
     fn is_even_at(&self, index: usize) -> bool
         requires { index < length self.now.sums }

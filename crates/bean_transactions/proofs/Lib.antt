@@ -14,3 +14,4 @@ mod Examples
 pub mod LightFacts
 pub mod EachLine
 pub mod EachTrial
+pub mod LastFacts

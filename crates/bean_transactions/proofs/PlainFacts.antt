@@ -11,6 +11,7 @@ use Rattle.bean_interp.specs.Residual.{AreInRange}
 use Rattle.bean_interp.specs.Causes.{of_weighing}
 use Rattle.refusals.specs.declared.refusal.Refusal.{Refusal}
 use Rattle.bean_interp.specs.declared.cause.WeighCause.{WeighCause}
+use Rattle.bean_interp.specs.declared.fill.Fill.{Fill}
 use Rattle.bean_interp.specs.declared.cause.WeighCause.TheVariants.{TooWide}
 use Rattle.refusals.specs.declared.refusal.Refusal.TheVariants.{OutOfMemory, Refused}
 use Rattle.bean_interp.proofs.WholeFacts.{none_filled, none_lack}
@@ -29,7 +30,7 @@ use Rattle.refusals.specs.declared.refusal.Refusal.TheVariants as stop
 use Rattle.bean_transactions.proofs.LinedFacts.{before_length, latest}
 
 -- the lines of such postings
-abbrev lines_as : List Posted → List Line
+abbrev pub lines_as : List Posted → List Line
 lines_as qs = map (λ q. line.Posted q) qs
 
 -- ---- what comes of them
@@ -51,7 +52,7 @@ next_as_written s ls i p q is =
       written = is.written_is k;
     } ∷ [])))
 
-lined_as_written : (s : Setting) (ps : List Posting) (qs : List Posted) → AreAsWritten ps qs
+pub lined_as_written : (s : Setting) (ps : List Posting) (qs : List Posted) → AreAsWritten ps qs
     → AreLined s ps (lines_as qs)
 lined_as_written s [] qs are = ap lines_as are
 lined_as_written s (p ∷ ps) qs (earlier, q, before, is, more) = (
@@ -62,16 +63,18 @@ lined_as_written s (p ∷ ps) qs (earlier, q, before, is, more) = (
   ap lines_as more ∙ map-append (λ q. line.Posted q) earlier (q ∷ []),
 )
 
-legs_as_written : (ps : List Posting) (qs : List Posted)
+pub legs_as_written : (ps : List Posting) (qs : List Posted)
     → legs_of ps (lines_as qs) ≡ booked_legs ps qs
 legs_as_written ps [] = refl
 legs_as_written ps (q ∷ qs) = ap (λ l. leg_of ps (line.Posted q) ∷ l) (legs_as_written ps qs)
 
-posts_as_written : (k : ℕ) (qs : List Posted) → posts_from [] k (lines_as qs) ≡ qs
-posts_as_written k [] = refl
-posts_as_written k (q ∷ qs) = ap (λ l. q ∷ l) (posts_as_written (k + 1) qs)
+-- whatever is filled in at other lines
+pub posts_as_written : (fills : List Fill) (k : ℕ) (qs : List Posted)
+    → posts_from fills k (lines_as qs) ≡ qs
+posts_as_written fills k [] = refl
+posts_as_written fills k (q ∷ qs) = ap (λ l. q ∷ l) (posts_as_written fills (k + 1) qs)
 
-all_whole : (ps : List Posting) (qs : List Posted) → list_all is_whole (booked_legs ps qs) ≡ true
+pub all_whole : (ps : List Posting) (qs : List Posted) → list_all is_whole (booked_legs ps qs) ≡ true
 all_whole ps [] = refl
 all_whole ps (q ∷ qs) = all_whole ps qs
 
@@ -104,7 +107,7 @@ kept_as_written s ps qs are range = record {
       range,
       none_filled (booked_legs ps qs) (all_whole ps qs),
     );
-    posted_is = sym (posts_as_written 0 qs);
+    posted_is = sym (posts_as_written [] 0 qs);
   };
 }
 

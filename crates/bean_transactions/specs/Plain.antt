@@ -1,10 +1,11 @@
 -- Transactions that are booked as they are written.
 use Rattle.std.specs.Prelude.{◌≡◌, ◌&&◌, ℕ, Bool, true, false, List, [], ◌∷◌, ◌++◌, None, length}
+use Rattle.std.specs.List.{list_all}
 use Rattle.bean_postings.specs.Posting.{has_number}
 use Rattle.bean_postings.specs.declared.cost.Cost.{Cost}
 use Rattle.bean_postings.specs.declared.cost.Cost.TheVariants as cost
 use Rattle.bean_postings.specs.declared.posting.Posting as postings
-use Rattle.bean_postings.specs.declared.posting.Units.TheVariants.{Amount}
+use Rattle.bean_postings.specs.declared.posting.Units.TheVariants.{Amount, Missing}
 use Rattle.bean_holdings.specs.declared.posted.Posted.{Posted}
 
 abbrev pub is_absent : Cost → Bool
@@ -30,3 +31,11 @@ AreAsWritten [] qs = qs ≡ []
 AreAsWritten (p ∷ ps) qs =
     (earlier : List Posted) × (q : Posted) × AreAsWritten ps earlier × IsAsWritten (length ps) p q
     × (qs ≡ earlier ++ q ∷ [])
+
+-- all but the last are plain, and that one lacks its amount
+pub record LackLastAmount (ps : List postings.Posting) : Type 0 where
+  pub front : List postings.Posting
+  pub last : postings.Posting
+  pub are : ps ≡ front ++ last ∷ []
+  pub plain : list_all is_plain front ≡ true
+  pub lacks : last.units ≡ Missing

@@ -35,7 +35,7 @@ fn push_fill<'a>(
 }
 
 /// Adds the postings of what is filled in at a line.
-fn push_filled<'a>(
+pub(crate) fn push_filled<'a>(
     posted: &mut Vec<Posted<'a>>,
     fills: &[Fill<'a>],
     line: usize,
@@ -69,12 +69,8 @@ fn push_line<'a>(
         ≡ posted.old.items ++ spec.posts_at fills.now number line.entry) }
 {
     match line {
-        Line::Posted(own) => push_posted(posted, own),
-        Line::Take(own) => push_posted(posted, own),
-        Line::MissingNumber(account, _, written) => {
-            push_filled(posted, fills, number, &account, written)
-        }
-        Line::MissingAmount(account, written) => {
+        Line::Posted(own) | Line::Take(own) => push_posted(posted, own),
+        Line::MissingNumber(account, _, written) | Line::MissingAmount(account, written) => {
             push_filled(posted, fills, number, &account, written)
         }
     }

@@ -202,6 +202,24 @@ fn note<'a>(
     Ok(())
 }
 
+/// Lays the booked postings of a transaction on the scales with their decimals, in place of what lay
+/// there.
+pub(crate) fn set<'a>(
+    scales: &mut Scales<'a>,
+    postings: &[WrittenPosting<'a>],
+    posted: &[Posted<'a>],
+) -> Result<(), Refusal<WeighCause>>
+    ensures set { OnOk result (AreSet scales.new (spec.booked_legs postings.now posted.now)) }
+    ensures wide { result ≡ Err (Refusal.Refused WeighCause.TooWide)
+        → ¬ AreInRange (spec.booked_legs postings.now posted.now) }
+{
+    if let Err(fault) = lay(scales, postings, posted) {
+        return Err(fault);
+    }
+    note(scales, postings, posted)?;
+    Ok(())
+}
+
 /// Whether a transaction balances by the postings that it is booked as, or that they are too wide.
 pub(crate) fn judge<'a>(
     scales: &mut Scales<'a>,

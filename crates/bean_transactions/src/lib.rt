@@ -55,11 +55,14 @@
 //! For each posting in braces, and for no other, a look-up in its account and what a reduction
 //! costs in [`bean_reductions`]; that it is one is told by how many lots of each sign are left,
 //! which are counted take by take. The first and the last lots of an account that are taken whole
-//! are passed once for all sales of the transaction. What is filled in is looked at once. What the
+//! are passed once for all sales of the transaction, and its takes are added up only where a later
+//! posting in braces asks for what they leave. What is filled in is looked at once, and where the last
+//! posting alone lacks its amount the others are laid on the scales as they are booked. What the
 //! transaction is booked as stands in the memory of a list that is given, as that of an earlier one.
 #![tactic(auto)]
 
 mod completed;
+mod lacking;
 mod laws;
 mod legs;
 mod line;

@@ -6,7 +6,9 @@ ghost use Rattle.bean_postings.specs.Posting.{is_outside_profile};
 ghost use Rattle.bean_transactions.specs.Held.{takes_in};
 ghost use Rattle.bean_holdings.specs.Holdings.{IsBounded, additions_in};
 ghost use Rattle.bean_transactions.specs.Lined.{AreLined, IsFirstFault, IsNext, Setting};
-ghost use Rattle.bean_transactions.specs.Lines.{Adds, AreWithin, HasTaken, IsKeeping, IsSettled, is_lot};
+ghost use Rattle.bean_holdings.specs.Takes.{AreWithin, HasTaken};
+ghost use Rattle.bean_holdings.specs.declared.posted.Posted.{Posted};
+ghost use Rattle.bean_transactions.specs.Lines.{Adds, IsKeeping, IsSettled, is_lot};
 ghost use Rattle.bean_transactions.specs.Outcome as spec;
 ghost use Rattle.bean_transactions.specs.Outcome.{ComesOf, StopsAt, StopsWith};
 ghost use Rattle.bean_holdings.specs.declared.holdings.Holdings as holdings;
@@ -18,98 +20,30 @@ use crate::outcome::{Outcome, outcome_of};
 use crate::setting::Head;
 use crate::stock::Stock;
 use crate::stop::LineFault;
-use bean_holdings::{Holdings, Inventories, LotsLeft, Posted, Rests, without_gone};
+use bean_holdings::{Holdings, Takes};
 use bean_inventories::Inventory;
 use bean_postings::{Cost, WrittenPosting};
 use refusals::Refusal;
 use std::alloc::{AllocError, Global};
 
-/// What takes come to in each account, which lots they leave there, and where these stand.
-pub(crate) struct Takes<'a, 's> {
-    taken: Inventories<'a>,
-    left: LotsLeft<'a>,
-    rests: Rests<'a, 's>,
-    /// What an account holds that isn't there.
-    nothing: &'s Inventory<'a>,
-}
-
-/// Written out, so that what gives one up needs to know nothing of what is in it.
-impl Drop for Takes<'_, '_> {
-    fn drop(self) {
-        let Takes {
-            taken: _,
-            left: _,
-            rests: _,
-            nothing: _,
-        } = self;
-    }
-}
-
-impl<'a, 's> Takes<'a, 's> {
-    /// No takes. Takes no memory.
-    fn none(alloc: Global, nothing: &'s Inventory<'a>) -> Takes<'a, 's>
-        requires { nothing.now ≡ [] }
-        ensures { (h : holdings.Holdings) → HasTaken h [] result }
-    {
-        Takes {
-            taken: Inventories::new(alloc),
-            left: LotsLeft::new(alloc),
-            rests: Rests::new(alloc),
-            nothing,
-        }
-    }
-
-    /// Adds a take.
-    fn add(
-        &mut self,
-        alloc: Global,
-        holdings: &'s Holdings<'a>,
-        take: &Posted<'a>,
-    ) -> Result<(), AllocError>
-        requires bounded { IsBounded holdings.now }
-        requires few { additions_in holdings.now ≤ 2 ^ 40 }
-        requires within { (ps : List Posted) × HasTaken holdings.now ps self.old
-            × AreWithin holdings.now (ps ++ take.now ∷ []) }
-        ensures { (ps : List Posted) → HasTaken holdings.now ps self.old
-            → AreWithin holdings.now (ps ++ take.now ∷ [])
-            → OnOk result (HasTaken holdings.now (ps ++ take.now ∷ []) self.new) }
-    {
-        let key = take.key();
-        let held = holdings.of(&take.account, self.nothing);
-        let taken = self.taken.of(&take.account, self.nothing);
-        let count = take.units.number.scaled(8);
-        self.left.note(&take.account, held, taken, &key, count)?;
-        let rest = self.rests.before_take(&take.account, held, taken, &key);
-        self.taken.post(alloc, take, 0)?;
-        match rest {
-            Some(rest) => {
-                let taken = self.taken.of(&take.account, self.nothing);
-                self.rests
-                    .set(take.account.lend(), without_gone(rest, taken))
-            }
-            None => Ok(()),
-        }
-    }
-
-    /// Adds what a line takes, if anything.
-    fn note(
-        &mut self,
-        alloc: Global,
-        holdings: &'s Holdings<'a>,
-        line: &Line<'a>,
-    ) -> Result<(), AllocError>
-        requires bounded { IsBounded holdings.now }
-        requires few { additions_in holdings.now ≤ 2 ^ 40 }
-        requires within { (ps : List Posted) × HasTaken holdings.now ps self.old
-            × AreWithin holdings.now (ps ++ takes_in (line.now ∷ [])) }
-        ensures { (ps : List Posted) → HasTaken holdings.now ps self.old
-            → AreWithin holdings.now (ps ++ takes_in (line.now ∷ []))
-            → OnOk result (HasTaken holdings.now (ps ++ takes_in (line.now ∷ [])) self.new) }
-    {
-        match line {
-            Line::Take(take) => self.add(alloc, holdings, take),
-            _ => Ok(()),
-        }
+/// Adds what a line takes, if anything.
+fn note_line<'a, 's>(
+    takes: &mut Takes<'a, 's>,
+    alloc: Global,
+    holdings: &'s Holdings<'a>,
+    line: &Line<'a>,
+) -> Result<(), AllocError>
+    requires bounded { IsBounded holdings.now }
+    requires few { additions_in holdings.now ≤ 2 ^ 40 }
+    requires within { (ps : List Posted) × HasTaken holdings.now ps takes.old
+        × AreWithin holdings.now (ps ++ takes_in (line.now ∷ [])) }
+    ensures { (ps : List Posted) → HasTaken holdings.now ps takes.old
+        → AreWithin holdings.now (ps ++ takes_in (line.now ∷ []))
+        → OnOk result (HasTaken holdings.now (ps ++ takes_in (line.now ∷ [])) takes.new) }
+{
+    match line {
+        Line::Take(take) => takes.add(alloc, holdings, take),
+        _ => Ok(()),
     }
 }
 
@@ -171,40 +105,28 @@ impl<'a, 's> Lines<'a, 's> {
         lines
     }
 
-    /// Adds up the takes that weren't added up yet.
-    fn note_takes(&mut self, alloc: Global, holdings: &'s Holdings<'a>) -> Result<(), AllocError>
-        requires keeping { IsKeeping holdings.now self.old }
-        requires bounded { IsBounded holdings.now }
-        requires few { additions_in holdings.now ≤ 2 ^ 40 }
-        ensures lines { OnOk result (self.new.lines.items ≡ self.old.lines.items) }
-        ensures keeping { OnOk result (IsKeeping holdings.now self.new) }
-        ensures taken { OnOk result
-            (HasTaken holdings.now (takes_in self.new.lines.items) self.new.takes) }
-    {
-        while self.noted < self.lines.len() {
-            self.takes.note(alloc, holdings, &self.lines[self.noted])?;
-            self.noted += 1;
-        }
-        Ok(())
-    }
-
-    /// Adds them up where the next posting asks for what is left of lots.
-    fn prepare(
+    /// Adds up the takes that weren't added up yet, where the next posting asks for what is left of
+    /// lots.
+    fn note_takes(
         &mut self,
         alloc: Global,
         holdings: &'s Holdings<'a>,
-        posting: &WrittenPosting<'a>,
+        next: &WrittenPosting<'a>,
     ) -> Result<(), AllocError>
         requires keeping { IsKeeping holdings.now self.old }
         requires bounded { IsBounded holdings.now }
         requires few { additions_in holdings.now ≤ 2 ^ 40 }
         ensures lines { OnOk result (self.new.lines.items ≡ self.old.lines.items) }
         ensures keeping { OnOk result (IsKeeping holdings.now self.new) }
-        ensures taken { OnOk result (is_lot posting.now.details.cost ≡ true
+        ensures taken { OnOk result (is_lot next.now.details.cost ≡ true
             → HasTaken holdings.now (takes_in self.new.lines.items) self.new.takes) }
     {
-        if is_in_braces(posting) {
-            return self.note_takes(alloc, holdings);
+        if !is_in_braces(next) {
+            return Ok(());
+        }
+        while self.noted < self.lines.len() {
+            note_line(&mut self.takes, alloc, holdings, &self.lines[self.noted])?;
+            self.noted += 1;
         }
         Ok(())
     }
@@ -288,7 +210,7 @@ impl<'a, 's> Lines<'a, 's> {
             → IsSettled s holdings.now methods.now head
             → StopsWith (IsNext s self.old.lines.items index posting.now) stop) }
     {
-        self.prepare(alloc, holdings, posting)?;
+        self.note_takes(alloc, holdings, posting)?;
         match self.next(alloc, holdings, methods, head, index, posting) {
             Ok(outcome) => {
                 self.add(outcome)?;

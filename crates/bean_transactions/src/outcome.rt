@@ -37,10 +37,7 @@ pub(crate) enum Outcome<'a> {
 fn reduces(method: Method) -> bool
     ensures { result ≡ spec.reduces method }
 {
-    match method {
-        Method::None => false,
-        _ => true,
-    }
+    !matches!(method, Method::None)
 }
 
 /// Whether units in braces are a reduction.

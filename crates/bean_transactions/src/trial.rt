@@ -11,6 +11,7 @@ ghost use Rattle.bean_transactions.specs.Tried as spec;
 ghost use Rattle.bean_transactions.specs.Tried.{IsCompleted, KnowsBalance, LacksOrIsWide, TriesOrLacks};
 
 use crate::completed::completed;
+use crate::lacking::{lack_last_amount, try_lacking_last};
 use crate::legs::{judge, legs_of};
 use crate::line::{Line, Tried};
 use crate::lines::line_up;
@@ -111,6 +112,9 @@ pub fn try_transaction<'a>(
     }
     if are_plain(postings) {
         return try_plain(scales, spare, head, postings);
+    }
+    if lack_last_amount(postings) {
+        return try_lacking_last(alloc, scales, spare, head, postings);
     }
     try_lines(alloc, holdings, methods, scales, spare, head, postings)
 }

@@ -5,7 +5,8 @@ use Rattle.bean_reductions.specs.After.{after}
 use Rattle.bean_transactions.specs.Held.{takes_in}
 use Rattle.bean_transactions.specs.Methods.{method_in}
 use Rattle.bean_transactions.proofs.LinedFacts.{next_of}
-use Rattle.bean_transactions.proofs.WithinFacts.{small_held, small_taken, within_of}
+use Rattle.bean_holdings.proofs.TakesFacts.{small_held, small_taken}
+use Rattle.bean_transactions.proofs.WithinFacts.{within_of}
 use Rattle.bean_transactions.proofs.lines.Lines.next.Goals as goal
 
 pub outcome_of-requires-2-clause-small : goal.outcome_of-requires-2-clause-small

@@ -1,12 +1,12 @@
 use Rattle.std.proofs.Common.{◌+◌, arith, subst, sym, take}
 use Rattle.bean_transactions.specs.Held.{takes_in}
-use Rattle.bean_transactions.specs.Lines.{AreWithin, HasTaken}
+use Rattle.bean_holdings.specs.Takes.{AreWithin, HasTaken}
 use Rattle.bean_transactions.proofs.HeldFacts.{one_more_noted}
 use Rattle.bean_transactions.proofs.WithinFacts.{noted_within}
 use Rattle.bean_transactions.proofs.lines.Lines.note_takes.Goals as goal
 
-pub note-requires-clause-within : goal.note-requires-clause-within
-note-requires-clause-within c =
+pub note_line-requires-clause-within : goal.note_line-requires-clause-within
+note_line-requires-clause-within c =
     let h = c.args.holdings.now in
     let ls = c.loop-self.self.lines.items in
     let n = c.loop-self.self.noted in
@@ -29,8 +29,8 @@ loop-self-preserved c =
       keeping = record {
         few = omega arith;
         noted =
-            subst (λ ps. HasTaken h ps c.note.new.self) (sym more)
-            (c.in_ok-note.ensures (takes_in (take n ls)) keeping.noted
+            subst (λ ps. HasTaken h ps c.note_line.new.takes) (sym more)
+            (c.in_ok-note_line.ensures (takes_in (take n ls)) keeping.noted
             (subst (AreWithin h) more (noted_within h ls (n + 1) keeping.within)));
         within = keeping.within;
       };

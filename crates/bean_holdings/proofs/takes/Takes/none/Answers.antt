@@ -6,8 +6,8 @@ use Rattle.bean_reductions.specs.After.{after}
 use Rattle.bean_reductions.specs.Rest.{HasAllLeft}
 use Rattle.bean_holdings.proofs.LotsLeftFacts as lots
 use Rattle.bean_holdings.proofs.RestFacts as rests
-use Rattle.bean_transactions.proofs.WithinFacts.{nothing_within}
-use Rattle.bean_transactions.proofs.lines.Takes.none.Goals as goal
+use Rattle.bean_holdings.proofs.TakesFacts.{nothing_within}
+use Rattle.bean_holdings.proofs.takes.Takes.none.Goals as goal
 
 pub returns : goal.returns
 returns c = λ h. record {

@@ -17,8 +17,8 @@ use Rattle.bean_holdings.proofs.BoundFacts.{at_8_small}
 use Rattle.bean_holdings.proofs.HeldFacts.{one_more_in}
 use Rattle.bean_holdings.proofs.LotsLeftFacts.{sum_fits, sums_fit}
 use Rattle.bean_holdings.proofs.RestFacts.{lots_more, rests_first, rests_more, small_part}
-use Rattle.bean_transactions.proofs.WithinFacts.{small_held, small_taken}
-use Rattle.bean_transactions.proofs.lines.Takes.add.Goals as goal
+use Rattle.bean_holdings.proofs.TakesFacts.{small_held, small_taken}
+use Rattle.bean_holdings.proofs.takes.Takes.add.Goals as goal
 
 pub note-requires-clause-before : goal.note-requires-clause-before
 note-requires-clause-before c =

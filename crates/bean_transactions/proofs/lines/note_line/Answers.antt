@@ -2,10 +2,10 @@ use Rattle.std.proofs.Common.{◌++◌, ◌∷◌, [], ap, subst, sym, ◌∙◌
 use Rattle.std.proofs.lemmas.List.{append-nil}
 use Rattle.std.proofs.lemmas.Result.{on_ok_weaker}
 use Rattle.bean_transactions.specs.Held.{takes_in}
-use Rattle.bean_transactions.specs.Lines.{AreWithin, HasTaken}
+use Rattle.bean_holdings.specs.Takes.{AreWithin, HasTaken}
 use Rattle.bean_transactions.specs.declared.line.Line.{Line}
 use Rattle.bean_transactions.proofs.HeldFacts.{none_taken}
-use Rattle.bean_transactions.proofs.lines.Takes.note.Goals as goal
+use Rattle.bean_transactions.proofs.lines.note_line.Goals as goal
 
 pub add-requires-clause-within : goal.add-requires-clause-within
 add-requires-clause-within c = (
@@ -25,6 +25,6 @@ returns-in-Take c = λ ps has within.
 
 pub returns-in_default : goal.returns-in_default
 returns-in_default c = λ ps has within.
-    subst (λ qs. HasTaken c.args.holdings.now qs c.args.self.now)
+    subst (λ qs. HasTaken c.args.holdings.now qs c.args.takes.now)
     (sym (ap (λ qs. ps ++ qs) (none_taken c.args.line.now c.in_default.not-Take) ∙ append-nil ps))
     has

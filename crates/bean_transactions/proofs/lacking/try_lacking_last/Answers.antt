@@ -1,0 +1,84 @@
+use Rattle.std.proofs.Common.{Err, ap, length, subst, sym, ◌++◌, ◌∙◌}
+use Rattle.std.proofs.lemmas.List.{length-map}
+use Rattle.bean_interp.specs.Completion.{Completes}
+use Rattle.bean_interp.specs.Residual.{AreInRange}
+use Rattle.bean_interp.specs.Scales.{AreSet}
+use Rattle.bean_interp.proofs.LastFacts.{lacking_last, stopped_before_last}
+use Rattle.bean_postings.specs.declared.posting.Posting.{Posting}
+use Rattle.bean_transactions.specs.Outcome.{StopsAt}
+use Rattle.bean_transactions.specs.Tried.{IsKept, LacksOrIsWide, booked_leg, booked_legs, filled_at}
+use Rattle.bean_transactions.specs.declared.setting.Head.{Head}
+use Rattle.bean_transactions.proofs.LastFacts.{kept_lacking, many, same_last, stopped_lacking}
+use Rattle.bean_transactions.proofs.PlainFacts.{all_whole}
+use Rattle.bean_transactions.proofs.lacking.try_lacking_last.Goals as goal
+
+pub returns-in-Err-clause-tried : goal.returns-in-Err-clause-tried
+returns-in-Err-clause-tried c = λ s is.
+    let ps = c.args.postings.now in
+    let front = c.in-Some.front.now in
+    let last : Posting = c.in-Some.last.now in
+    let qs = c.in_ok-posted.posted.items in
+    let parts = c.in-Some.ensures.cases.0 in
+    let lacks = ap (λ (p : Posting). p.units)
+    (same_last front c.requires.lacking.front last c.requires.lacking.last
+    (sym parts ∙ c.requires.lacking.are)) ∙ c.requires.lacking.lacks in
+    let all = lacking_last (booked_legs ps qs) in
+    let stops =
+    c.refusal_of.ensures all
+    (subst (λ e. Completes all (Err e)) (sym c.completion_refusal.ensures)
+    (stopped_before_last (booked_legs ps qs) (all_whole ps qs) c.in-Err.fault
+    (λ same.
+    subst (λ l. ¬ AreInRange (booked_legs ps l)) c.as_slice.ensures.value
+    (c.in-Err.ensures.wide same)))) in
+    stopped_lacking s ps front last qs parts lacks c.in_ok-posted.ensures c.refusal_of.result
+    c.requires.inside
+    (subst (λ n. StopsAt (LacksOrIsWide n all) c.refusal_of.result)
+    (sym (ap (λ (h : Head). h.line) is)) stops)
+
+pub returns-in-Ok-clause-tried : goal.returns-in-Ok-clause-tried
+returns-in-Ok-clause-tried c = λ s is.
+    let ps = c.args.postings.now in
+    let front = c.in-Some.front.now in
+    let last : Posting = c.in-Some.last.now in
+    let qs = c.in_ok-posted.posted.items in
+    let are = c.in_ok-posted.ensures in
+    let parts = c.in-Some.ensures.cases.0 in
+    let lacks = ap (λ (p : Posting). p.units)
+    (same_last front c.requires.lacking.front last c.requires.lacking.last
+    (sym parts ∙ c.requires.lacking.are)) ∙ c.requires.lacking.lacks in
+    let set =
+    subst (λ l. AreSet c.set.new.scales (booked_legs ps l)) c.as_slice.ensures.value
+    c.in_default-set.ensures.set in
+    let completes =
+    c.in-Ok.ensures (booked_legs ps qs) (all_whole ps qs)
+    (length-map qs (booked_leg ps) ∙ many s ps front last qs parts lacks are) set in (
+      c.requires.inside,
+      subst (IsKept s ps)
+          (sym (c.new.ensures ∙ c.in_ok-push_filled-in-Ok.ensures
+          ∙ (λ i. qs
+          ++ filled_at (c.as_slice-in-Ok.ensures i) (length front) (c.account-account.ensures i) (length front))))
+          (kept_lacking s ps front last qs parts lacks are c.in-Ok.fills completes),
+    )
+
+pub returns-clause-tried : goal.returns-clause-tried
+returns-clause-tried c = λ s is.
+    let ps = c.args.postings.now in
+    let front = c.in-Some.front.now in
+    let last : Posting = c.in-Some.last.now in
+    let qs = c.in_ok-posted.posted.items in
+    let are = c.in_ok-posted.ensures in
+    let parts = c.in-Some.ensures.cases.0 in
+    let lacks = ap (λ (p : Posting). p.units)
+    (same_last front c.requires.lacking.front last c.requires.lacking.last
+    (sym parts ∙ c.requires.lacking.are)) ∙ c.requires.lacking.lacks in
+    let all = lacking_last (booked_legs ps qs) in
+    let set =
+    subst (λ l. AreSet c.set.new.scales (booked_legs ps l)) c.as_slice.ensures.value
+    c.in_default-set.ensures.set in
+    let completes =
+    c.in-Err-fill_last.ensures (booked_legs ps qs) (all_whole ps qs)
+    (length-map qs (booked_leg ps) ∙ many s ps front last qs parts lacks are) set in
+    stopped_lacking s ps front last qs parts lacks are c.refusal_of-in-Err-fill_last.result
+    c.requires.inside
+    (subst (λ n. StopsAt (LacksOrIsWide n all) c.refusal_of-in-Err-fill_last.result)
+    (sym (ap (λ (h : Head). h.line) is)) (c.refusal_of-in-Err-fill_last.ensures all completes))
