@@ -1,6 +1,6 @@
 //! The decimals to which a transaction is exact, by currency.
-ghost use Rattle.std.specs.Prelude.{◌≡◌, ◌≤◌, [], List, ℕ, OnOk, Some, IfSome, if◌then◌else◌};
-ghost use Rattle.std.specs.Map.{lookup};
+ghost use Rattle.std.specs.Prelude.{◌≡◌, ◌≤◌, [], List, ℕ, OnOk, Some, IfSome, IsTrue, position, if◌then◌else◌};
+ghost use Rattle.std.specs.Map.{keys_of, lookup};
 ghost use Rattle.bean_interp.specs.Tolerance as spec;
 ghost use Rattle.std.specs.Str.{bytes_eq};
 ghost use Rattle.bean_interp.specs.Tolerance.{precision, with_written};
@@ -60,6 +60,16 @@ fn lesser(decimals: u8, least: Option<u8>) -> u8
     }
 }
 
+/// Whether the decimals that are written are no fewer than those that were.
+fn are_no_less(decimals: u8, least: Option<u8>) -> bool
+    ensures { IsTrue result → Some (spec.lesser decimals least) ≡ least }
+{
+    match least {
+        Some(least) => least <= decimals,
+        None => false,
+    }
+}
+
 impl<'a> Precisions<'a> {
     /// No decimals. Takes no memory.
     pub fn new(alloc: Global) -> Precisions<'a>
@@ -70,11 +80,26 @@ impl<'a> Precisions<'a> {
         }
     }
 
-    /// The decimals of a currency, where some are written.
+    /// Whether a currency is the first of all.
+    fn is_first(&self, currency: &Currency<'_>) -> bool
+        ensures { IsTrue result → position (bytes_eq currency.now) (keys_of self.now) ≡ Some 0 }
+    {
+        let _currencies = self.by_currency.len();
+        match self.by_currency.get_index(0) {
+            Some((first, _)) => *currency == *first,
+            None => false,
+        }
+    }
+
+    /// The decimals of a currency, where some are written. Most transactions are of one currency, so
+    /// the first is compared and not hashed.
     pub fn of(&self, currency: &Currency<'_>) -> Option<u8>
         ensures is { result ≡ lookup (bytes_eq currency.now) self.now }
         ensures few { IfSome result (λ d. d ≤ 8) }
     {
+        if self.is_first(currency) {
+            return Some(self.by_currency[0]);
+        }
         self.by_currency.get(currency).copied()
     }
 
@@ -86,8 +111,12 @@ impl<'a> Precisions<'a> {
             then Some (spec.lesser decimals (lookup (bytes_eq currency.now) self.old))
             else lookup (bytes_eq c) self.old)) }
     {
-        let least = lesser(decimals, self.of(currency));
-        self.by_currency.insert(currency.lend(), least)?;
+        let least = self.of(currency);
+        if are_no_less(decimals, least) {
+            return Ok(());
+        }
+        self.by_currency
+            .insert(currency.lend(), lesser(decimals, least))?;
         Ok(())
     }
 

@@ -59,6 +59,7 @@ fn posted_as_written<'a>(index: usize, posting: &WrittenPosting<'a>) -> Posted<'
 }
 
 /// The postings as they are booked, in the memory of a list that is used no more.
+#[inline(always)]
 pub(crate) fn as_written<'a>(
     spare: Vec<Posted<'a>>,
     postings: &[WrittenPosting<'a>],
