@@ -17,13 +17,41 @@ pub(crate) struct At<'a> {
     pub currency: Currency<'a>,
 }
 
+/// Places at which counts were found last, by number; the first of all where none is noted. Nothing
+/// rests on them: what isn't there is looked up.
+#[derive(Drop)]
+struct Places {
+    by_number: Vec<usize>,
+}
+
+impl Places {
+    fn at(&self, number: usize) -> usize {
+        match self.by_number.get(number) {
+            Some(place) => *place,
+            None => 0,
+        }
+    }
+
+    fn note(&mut self, number: usize, place: usize) -> Result<(), AllocError> {
+        if self.by_number.len() <= number {
+            self.by_number.resize(number.saturating_add(1), 0)?;
+        }
+        if let Some(noted) = self.by_number.get_mut(number) {
+            *noted = place;
+        }
+        Ok(())
+    }
+}
+
 /// Counts by the numbers of accounts and by currency, 0 where nothing was added.
 #[derive(Drop)]
 pub(crate) struct Counts<'a> {
     pub by_number: IndexMap<At<'a>, i128>,
-    /// At the number of each account, the place at which a count of its own was found last. Nothing
-    /// rests on it: a currency that isn't there is looked up.
-    found: Vec<usize>,
+    /// By the number of an account, where a count of its own was found last.
+    found: Places,
+    /// By the place of a count, where that of the account above was found last, which is of the same
+    /// currency.
+    above: Places,
 }
 
 impl<'a> Counts<'a> {
@@ -33,7 +61,12 @@ impl<'a> Counts<'a> {
     {
         Counts {
             by_number: IndexMap::new(alloc),
-            found: Vec::new(alloc),
+            found: Places {
+                by_number: Vec::new(alloc),
+            },
+            above: Places {
+                by_number: Vec::new(alloc),
+            },
         }
     }
 
@@ -45,7 +78,7 @@ impl<'a> Counts<'a> {
             number,
             currency: currency.lend(),
         };
-        match self.place_of(&at) {
+        match self.place_of(&at, self.found.at(number)) {
             Some(place) => self.by_number[place],
             None => 0,
         }
@@ -63,51 +96,51 @@ impl<'a> Counts<'a> {
         }
     }
 
-    /// The place at which a count of a number is looked for first. Past all that is noted it is the
-    /// first of all: that it is another's is seen by its number.
-    fn first_place(&self, number: usize) -> usize {
-        match self.found.get(number) {
-            Some(place) => *place,
-            None => 0,
-        }
-    }
-
-    /// The place of a number and a currency, if they have one. They aren't hashed where the count of
-    /// the number that was found last is theirs.
-    fn place_of(&self, at: &At<'_>) -> Option<usize>
+    /// The place of a number and a currency, if they have one. They aren't hashed where they are those
+    /// at `first`.
+    fn place_of(&self, at: &At<'_>, first: usize) -> Option<usize>
         ensures some { IfSome result
             (λ i. position (same_at at.now) (keys_of self.now.by_number.entries) ≡ Some i) }
         ensures none { IfNone result
             (count_at self.now.by_number.entries at.now.number at.now.currency ≡ pos 0) }
     {
-        let first = self.first_place(at.number);
         if self.is_at(first, at) {
             return Some(first);
         }
         self.by_number.get_index_of(at)
     }
 
-    /// Notes the place at which a count of a number was found, unless it is looked for there
-    /// already.
-    fn note_place(&mut self, number: usize, place: usize) -> Result<(), AllocError>
+    /// The place at which a count of a number is looked for first, where the count of an account below
+    /// stands at `below`, if there is one.
+    fn first_place(&self, number: usize, below: Option<usize>) -> usize {
+        match below {
+            Some(below) => self.above.at(below),
+            None => self.found.at(number),
+        }
+    }
+
+    /// Notes the place at which it was found, unless it is looked for there already.
+    fn note_place(
+        &mut self,
+        number: usize,
+        below: Option<usize>,
+        place: usize,
+    ) -> Result<(), AllocError>
         ensures { self.new.by_number.entries ≡ self.old.by_number.entries }
     {
-        if self.first_place(number) == place {
+        if self.first_place(number, below) == place {
             return Ok(());
         }
-        if self.found.len() <= number {
-            self.found.resize(number.saturating_add(1), 0)?;
+        match below {
+            Some(below) => self.above.note(below, place),
+            None => self.found.note(number, place),
         }
-        if let Some(found) = self.found.get_mut(number) {
-            *found = place;
-        }
-        Ok(())
     }
 
     /// Puts a count under a number and a currency that have no place; the others stay. It is a
     /// function of its own, so that an addition to a count that is there makes no room for another.
     #[inline(never)]
-    fn begin(&mut self, at: At<'a>, count: i128) -> Result<(), AllocError>
+    fn begin(&mut self, at: At<'a>, count: i128) -> Result<usize, AllocError>
         ensures begun { OnOk result ((n : ℕ) (c : List ℕ) → count_at self.new.by_number.entries n c
             ≡ (if (at.entry.number == n) && bytes_eq at.entry.currency c
             then count else count_at self.old.by_number.entries n c)) }
@@ -115,16 +148,18 @@ impl<'a> Counts<'a> {
             ≡ count_at self.old.by_number.entries n c) }
     {
         self.by_number.insert(at, count)?;
-        Ok(())
+        Ok(self.by_number.len().saturating_sub(1))
     }
 
-    /// Adds to the count under a number and a currency; the others stay.
+    /// Adds to the count under a number and a currency; the others stay. It gives the place of the
+    /// count, with which that of the account above is found sooner.
     pub fn add(
         &mut self,
         number: usize,
         currency: &Currency<'a>,
         count: i128,
-    ) -> Result<(), AllocError>
+        below: Option<usize>,
+    ) -> Result<usize, AllocError>
         requires held { unsigned_abs (count_at self.old.by_number.entries number currency.now) < 2 ^ 126 }
         requires small { unsigned_abs count < 2 ^ 126 }
         ensures added { OnOk result ((n : ℕ) (c : List ℕ) → count_at self.new.by_number.entries n c
@@ -137,11 +172,12 @@ impl<'a> Counts<'a> {
             number,
             currency: currency.lend(),
         };
-        let Some(place) = self.place_of(&at) else {
+        let first = self.first_place(number, below);
+        let Some(place) = self.place_of(&at, first) else {
             return self.begin(at, count);
         };
-        self.note_place(number, place)?;
+        self.note_place(number, below, place)?;
         self.by_number[place] += count;
-        Ok(())
+        Ok(place)
     }
 }

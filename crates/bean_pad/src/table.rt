@@ -70,8 +70,10 @@ impl<'a> Table<'a> {
             then entry_at self.old a c +ℤ count else entry_at self.old a c)) }
     {
         let mut number = self.tree.number(account)?;
+        let mut below = None;
         while number > 0 {
-            self.counts.add(number, currency, count)?;
+            let place = self.counts.add(number, currency, count, below)?;
+            below = Some(place);
             number = self.tree.above(number);
         }
         Ok(())

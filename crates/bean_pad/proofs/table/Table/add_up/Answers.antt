@@ -47,11 +47,11 @@ loop-number-preserved c =
     let adding = c.loop-number.invariant.adding in record {
       same = c.loop-number.invariant.same;
       adding = climbed nodes first now next c.args.account.now c.args.currency.now _ number
-          c.above-number.result adding c.loop-number-test.true c.in_ok-add.ensures.added
+          c.above-number.result adding c.loop-number-test.true c.in_ok-place.ensures.added
           c.above-number.ensures.above;
       others = no_others nodes now next number c.args.currency.now _
           (within nodes adding.names number adding.at) c.loop-number.invariant.others
-          c.in_ok-add.ensures.added;
+          c.in_ok-place.ensures.added;
     }
 
 pub returns : goal.returns
