@@ -28,7 +28,7 @@ use Rattle.bean_interp.proofs.TableFacts.{AreApart, summed}
 
 -- ---- sums
 
-sum_append : (xs ys : List Weighed) (c : List ℕ) → sum_in (xs ++ ys) c ≡ sum_in xs c +ℤ sum_in ys c
+pub sum_append : (xs ys : List Weighed) (c : List ℕ) → sum_in (xs ++ ys) c ≡ sum_in xs c +ℤ sum_in ys c
 sum_append [] ys c = sym (+ℤ_idl (sum_in ys c))
 sum_append (x ∷ xs) ys c = by (bytes_eq x.0 c) (sum_append xs ys c)
   where
@@ -38,11 +38,11 @@ sum_append (x ∷ xs) ys c = by (bytes_eq x.0 c) (sum_append xs ys c)
     by true later = ap (λ z. x.1 +ℤ z) later ∙ sym (+ℤ_assoc x.1 (sum_in xs c) (sum_in ys c))
     by false later = later
 
-abbrev names : List Weighed → List (List ℕ)
+abbrev pub names : List Weighed → List (List ℕ)
 names ws = map (λ w. w.0) ws
 
 -- what weighs in no currency of these sums to nothing in it
-sum_apart : (ws : List Weighed) (c : List ℕ) → list_any (bytes_eq c) (names ws) ≡ false
+pub sum_apart : (ws : List Weighed) (c : List ℕ) → list_any (bytes_eq c) (names ws) ≡ false
     → sum_in ws c ≡ pos 0
 sum_apart [] c none = refl
 sum_apart (w ∷ ws) c none = by (bytes_eq c w.0) refl none (sum_apart ws c)
@@ -84,7 +84,7 @@ alone (w ∷ ws) apart = (
 
 -- ---- the gaps of a transaction are in different currencies
 
-abbrev gap_names : List (ℕ × List ℕ) → List (List ℕ)
+abbrev pub gap_names : List (ℕ × List ℕ) → List (List ℕ)
 gap_names gs = map (λ g. g.1) gs
 
 no_gaps : (all : List Leg) (i : ℕ) (legs : List Leg) → list_any (clash MissingAmount) legs ≡ false
@@ -123,7 +123,7 @@ any_filtered p c (d ∷ cs) none = by (p d) (bytes_eq c d) refl none (any_filter
     by true false other rest later = (λ i. other i || later rest i)
     by false false other rest later = later rest
 
-names_of_gaps : (i : ℕ) (cs : List (List ℕ)) → gap_names (map (λ c. (i, c)) cs) ≡ cs
+pub names_of_gaps : (i : ℕ) (cs : List (List ℕ)) → gap_names (map (λ c. (i, c)) cs) ≡ cs
 names_of_gaps i [] = refl
 names_of_gaps i (c ∷ cs) = ap (λ ds. c ∷ ds) (names_of_gaps i cs)
 
@@ -157,7 +157,7 @@ apart_gaps all i (MissingAmount ∷ legs) few =
     subst AreApart (sym here)
     (apart_filtered (lacks_in all) (currencies (weighed all)) (summed (weighed all)).apart)
 
-names_of_fills : (fills : List Fill)
+pub names_of_fills : (fills : List Fill)
     → names (map weight_of_fill fills) ≡ gap_names (map gap_of fills)
 names_of_fills [] = refl
 names_of_fills (f ∷ fills) = ap (λ cs. f.amount.currency ∷ cs) (names_of_fills fills)

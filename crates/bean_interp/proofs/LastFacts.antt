@@ -66,7 +66,7 @@ front_in_range legs more range = record {
 
 -- ---- it alone has gaps
 
-not_too_much : (legs : List Leg) → list_all is_whole legs ≡ true
+pub not_too_much : (legs : List Leg) → list_all is_whole legs ≡ true
     → lack_too_much (lacking_last legs) ≡ false
 not_too_much [] whole = refl
 not_too_much (Whole w ∷ legs) whole =
@@ -75,7 +75,7 @@ not_too_much (Whole w ∷ legs) whole =
 not_too_much (MissingNumber c ∷ legs) whole = cc
 not_too_much (MissingAmount ∷ legs) whole = cc
 
-gaps_behind : (all legs : List Leg) (i n : ℕ) → list_all is_whole legs ≡ true
+pub gaps_behind : (all legs : List Leg) (i n : ℕ) → list_all is_whole legs ≡ true
     → n ≡ i + length legs → gaps_from all i (lacking_last legs) ≡ gaps_of all n MissingAmount
 gaps_behind all [] i n whole is =
     let same : i ≡ n = omega (arith, is) in

@@ -14,3 +14,4 @@ pub mod PrecisionFacts
 mod SumsFacts
 mod WeightFacts
 pub mod LastFacts
+pub mod LastEvened

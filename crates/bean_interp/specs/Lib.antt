@@ -11,3 +11,4 @@ pub mod Scales
 pub mod Sums
 pub mod Kept
 pub mod Causes
+pub mod Filled

@@ -5,7 +5,7 @@ ghost use Rattle.bean_transactions.specs.Filled.{AreFrom, IsCutBehind};
 ghost use Rattle.bean_transactions.specs.Tried as spec;
 
 use crate::line::Line;
-use crate::spare::emptied;
+use crate::plain::emptied;
 use bean_base::Account;
 use bean_holdings::Posted;
 use bean_interp::Fill;

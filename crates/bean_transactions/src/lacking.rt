@@ -1,5 +1,6 @@
 //! Transactions that are booked as they are written, but for the last posting, which lacks its amount.
-ghost use Rattle.std.specs.Prelude.{◌≡◌, IfOk, IsTrue, false};
+ghost use Rattle.std.specs.Prelude.{◌≡◌, IfOk, IfSome, IsTrue, false, true};
+ghost use Rattle.bean_postings.specs.declared.price.Price.TheVariants as price;
 ghost use Rattle.bean_transactions.specs.Lined.{Setting};
 ghost use Rattle.bean_transactions.specs.Plain.{LackLastAmount};
 ghost use Rattle.bean_transactions.specs.Tried.{KnowsBalance, TriesOrLacks, is_outside};
@@ -13,12 +14,11 @@ use crate::stop::{LineFault, refusal_of};
 use bean_base::List;
 use bean_holdings::Posted;
 use bean_interp::{Scales, completion_refusal};
-use bean_postings::{Units, WrittenPosting};
+use bean_postings::{Price, Units, WrittenPosting};
 use refusals::Refusal;
 use std::alloc::Global;
 
-/// Whether the last posting lacks its amount, and all before it are booked as they are written, as
-/// where an amount is left out to be filled in.
+/// Whether the last posting lacks its amount, and all before it are booked as they are written.
 pub(crate) fn lack_last_amount(postings: &[WrittenPosting<'_>]) -> bool
     ensures { IsTrue result → LackLastAmount postings.now }
 {
@@ -28,8 +28,18 @@ pub(crate) fn lack_last_amount(postings: &[WrittenPosting<'_>]) -> bool
     }
 }
 
+/// That all balances once this posting has taken what the others lack, where it has no price.
+fn evened_by(posting: &WrittenPosting<'_>) -> Option<bool>
+    ensures { IfSome result (λ b. (b ≡ true) × (posting.now.details.price ≡ price.Absent)) }
+{
+    match posting.details() {
+        Some(parts) => matches!(parts.price, Price::Absent).then_some(true),
+        None => Some(true),
+    }
+}
+
 /// Tries such a transaction. All postings but the last are its lines, and the last takes what these
-/// lack together: so nothing is laid apart before it is booked.
+/// lack together. So it balances, where the last has no price, and nothing is laid apart for it.
 pub(crate) fn try_lacking_last<'a>(
     alloc: Global,
     scales: &mut Scales<'a>,
@@ -55,7 +65,7 @@ pub(crate) fn try_lacking_last<'a>(
             push_filled(&mut posted, fills.as_slice(), number, account, number)?;
             Ok(Tried {
                 posted: List::new(posted),
-                balances: None,
+                balances: evened_by(last),
             })
         }
         Err(fault) => Err(refusal_of(fault, head.line)),

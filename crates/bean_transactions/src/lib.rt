@@ -48,7 +48,7 @@
 //!
 //! One thing comes of a transaction: its postings or its fault, by a law of this crate. Whether one
 //! that is kept balances is told by [`balances`], and with the trial where no posting has a cost or
-//! lacks something: such a transaction is booked as it is written, and is weighed once.
+//! lacks something, or the last its amount alone: it is booked as it is written, and weighed once.
 //!
 //! # Cost
 //!
@@ -71,7 +71,6 @@ mod methods;
 mod outcome;
 mod plain;
 mod setting;
-mod spare;
 mod stock;
 mod stop;
 mod trial;

@@ -1,5 +1,5 @@
 //! Transactions that are booked as they are written.
-ghost use Rattle.std.specs.Prelude.{◌≡◌, IfOk, false, reverse, true};
+ghost use Rattle.std.specs.Prelude.{◌≡◌, [], IfOk, false, reverse, true};
 ghost use Rattle.std.specs.List.{list_all};
 ghost use Rattle.bean_transactions.specs.Lined.{Setting};
 ghost use Rattle.bean_transactions.specs.Plain as spec;
@@ -9,7 +9,6 @@ ghost use Rattle.bean_transactions.specs.Tried.{KnowsBalance, TriesOrLacks, is_o
 use crate::legs::judge;
 use crate::line::Tried;
 use crate::setting::Head;
-use crate::spare::emptied;
 use crate::stop::{LineFault, refusal_of};
 use bean_base::List;
 use bean_holdings::Posted;
@@ -56,6 +55,16 @@ fn posted_as_written<'a>(index: usize, posting: &WrittenPosting<'a>) -> Posted<'
         },
         _ => unreachable!(),
     }
+}
+
+/// A list of no postings with room for so many, in the memory of a list that is used no more.
+pub(crate) fn emptied<'a>(used: Vec<Posted<'a>>, room: usize) -> Result<Vec<Posted<'a>>, AllocError>
+    ensures { IfOk result (λ empty. empty.items ≡ []) }
+{
+    let mut empty = used;
+    empty.clear();
+    empty.reserve(room)?;
+    Ok(empty)
 }
 
 /// The postings as they are booked, in the memory of a list that is used no more.
