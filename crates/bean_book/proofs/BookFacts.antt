@@ -10,22 +10,22 @@ use Rattle.refusals.specs.declared.refusal.Refusal.{Refusal}
 use Rattle.refusals.specs.declared.refusal.Refusal.TheVariants.{OutOfMemory, Refused}
 use Rattle.bean_loaded.specs.Loaded.{Loaded}
 use Rattle.bean_book.specs.Booked.{AreTooMany, Books, MakesLedger}
-use Rattle.bean_book.specs.declared.account_sets.AccountSets.{AccountSets}
+use Rattle.bean_book.specs.declared.details.Details.{Details}
 use Rattle.bean_book.proofs.LedgerFacts.{rows_hold}
 
 -- where the kept postings are too many, so are the rows
-pub too_many_kept : (sets : AccountSets) (l : Loaded) (fault : Refusal BookCause)
-    → (fault ≡ Refused TooManyPostings → booker.HasTooMany l) → Books sets l (Err fault)
-too_many_kept sets l (Refused TooManyPostings) full = λ st leads.
+pub too_many_kept : (details : Details) (l : Loaded) (fault : Refusal BookCause)
+    → (fault ≡ Refused TooManyPostings → booker.HasTooMany l) → Books details l (Err fault)
+too_many_kept details l (Refused TooManyPostings) full = λ st leads.
     let rows = rows_hold st in
     let many = full refl st leads in omega (arith, rows, many)
-too_many_kept sets l OutOfMemory full = tt
+too_many_kept details l OutOfMemory full = tt
 
 -- where the rows are too many of what is booked, so are they of all that it may lead to
-pub too_many_rows : (sets : AccountSets) (l : Loaded) (here : Stand)
+pub too_many_rows : (details : Details) (l : Loaded) (here : Stand)
     → LeadsTo (method_in_ledger l) (reverse l.directives) here → (fault : Refusal BookCause)
-    → MakesLedger sets (bookings_of here) (Err fault) → Books sets l (Err fault)
-too_many_rows sets l here led (Refused TooManyPostings) many = λ st leads.
+    → MakesLedger details (bookings_of here) (Err fault) → Books details l (Err fault)
+too_many_rows details l here led (Refused TooManyPostings) many = λ st leads.
     let same = one_stand (method_in_ledger l) (reverse l.directives) here st led leads in
     subst (λ s. AreTooMany (bookings_of s)) same many
-too_many_rows sets l here led OutOfMemory many = tt
+too_many_rows details l here led OutOfMemory many = tt

@@ -26,7 +26,7 @@ use Rattle.bean_book.specs.Booked.{Books, IsLedgerOf, decimals_from}
 use Rattle.bean_book.specs.Booked.{rows_of_all, written_in_all}
 use Rattle.bean_book.specs.Found.{FindsFaults}
 use Rattle.bean_book.specs.Reported.{reported}
-use Rattle.bean_book.specs.declared.account_sets.AccountSets.TheVariants.{Made}
+use Rattle.bean_book.specs.declared.details.Details.TheVariants.{All}
 use Rattle.bean_book.proofs.ListFacts.{decimals_from-append}
 
 -- ---- the ledger of bookings
@@ -75,10 +75,10 @@ with_decimals d (a ∷ amounts) name =
     ∙ sym (decimals_from-append (decimals_of d name) name (a ∷ []) amounts)
 
 made : List Booking → Ledger
-made bs = record { rows = rows_of_all Made bs; decimals = decimals_with empty (written_in_all bs) }
+made bs = record { rows = rows_of_all All bs; decimals = decimals_with empty (written_in_all bs) }
 
-is_made : (bs : List Booking) → length (rows_of_all Made bs) ≤ MOST_POSTINGS
-    → IsLedgerOf Made bs (made bs)
+is_made : (bs : List Booking) → length (rows_of_all All bs) ≤ MOST_POSTINGS
+    → IsLedgerOf All bs (made bs)
 unfolding made
 is_made bs few = record {
   rows = refl;
@@ -92,7 +92,7 @@ is_made bs few = record {
 
 pub found : (l : Loaded) (st : Stand)
     → LeadsTo (method_in_ledger l) (reverse l.directives) st
-    → length (rows_of_all Made (bookings_of st)) ≤ MOST_POSTINGS → (faults : List Fault)
+    → length (rows_of_all All (bookings_of st)) ≤ MOST_POSTINGS → (faults : List Fault)
     → faults ≡ reported (faults_of l st) → FindsFaults l (Ok faults)
 found l st leads few faults is = (
   record { ledger = made (bookings_of st); faults = faults },
@@ -105,7 +105,7 @@ found l st leads few faults is = (
   refl,
 )
 
-pub none_found : (l : Loaded) (fault : Refusal BookCause) → Books Made l (Err fault)
+pub none_found : (l : Loaded) (fault : Refusal BookCause) → Books All l (Err fault)
     → FindsFaults l (Err fault)
 none_found l (Refused TooManyPostings) many = many
 none_found l OutOfMemory h = tt

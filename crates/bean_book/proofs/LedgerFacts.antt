@@ -17,44 +17,44 @@ use Rattle.posting_table.specs.Ledger.{Ledger}
 use Rattle.bean_book.specs.Booked.{AreTooMany, IsLedgerOf, MakesLedger, decimals_from, rows_of_all}
 use Rattle.bean_book.specs.Rows.{rows_of_pad}
 use Rattle.bean_book.specs.Taken.{IsLedgerSoFar, with_rows}
-use Rattle.bean_book.specs.declared.account_sets.AccountSets.{AccountSets}
-use Rattle.bean_book.specs.declared.account_sets.AccountSets.TheVariants.{Made}
+use Rattle.bean_book.specs.declared.details.Details.{Details}
+use Rattle.bean_book.specs.declared.details.Details.TheVariants.{All}
 use Rattle.bean_book.specs.declared.ledger.LedgerRows.{LedgerRows}
 use Rattle.bean_book.proofs.TakenFacts.{all_count, amounts_are, kept_count, kept_within, none_in}
 use Rattle.bean_book.proofs.TakenFacts.{put_in}
 
-pub refused : (sets : AccountSets) (bs : List Booking) (fault : Refusal BookCause)
-    → (fault ≡ Refused TooManyPostings → AreTooMany bs) → MakesLedger sets bs (Err fault)
-refused sets bs (Refused TooManyPostings) full = full refl
-refused sets bs OutOfMemory full = tt
+pub refused : (details : Details) (bs : List Booking) (fault : Refusal BookCause)
+    → (fault ≡ Refused TooManyPostings → AreTooMany bs) → MakesLedger details bs (Err fault)
+refused details bs (Refused TooManyPostings) full = full refl
+refused details bs OutOfMemory full = tt
 
 -- each kept posting has a row
 pub rows_hold : (st : Stand)
-    → length (postings_of st.drafts) ≤ length (rows_of_all Made (bookings_of st))
-rows_hold st = kept_within Made st.drafts (noted_pads st.steps)
+    → length (postings_of st.drafts) ≤ length (rows_of_all All (bookings_of st))
+rows_hold st = kept_within All st.drafts (noted_pads st.steps)
 
 -- so many rows there are, with those that pads insert
-pub rows_in_all : (sets : AccountSets) (ds : List Draft) (l : LedgerRows) (qs : List NotedPad)
-    → IsLedgerSoFar sets ds l
+pub rows_in_all : (details : Details) (ds : List Draft) (l : LedgerRows) (qs : List NotedPad)
+    → IsLedgerSoFar details ds l
     → places_in ds ≡ length qs
-    → length (rows_of_all sets (with_pads ds qs))
-    ≡ length l.ledger.rows + length (flat_map (rows_of_pad sets) qs)
-rows_in_all sets ds l qs h as_many =
-    all_count sets ds qs as_many
-    ∙ ap (λ n. n + length (flat_map (rows_of_pad sets) qs)) (sym (ap length h.rows ∙ kept_count sets ds))
+    → length (rows_of_all details (with_pads ds qs))
+    ≡ length l.ledger.rows + length (flat_map (rows_of_pad details) qs)
+rows_in_all details ds l qs h as_many =
+    all_count details ds qs as_many
+    ∙ ap (λ n. n + length (flat_map (rows_of_pad details) qs)) (sym (ap length h.rows ∙ kept_count details ds))
 
 -- put in, they are the rows of all that is booked
-pub put : (sets : AccountSets) (ds : List Draft) (l : LedgerRows) (qs : List NotedPad)
-    → IsLedgerSoFar sets ds l
-    → with_rows sets 0 l.ledger.rows l.places.items qs ≡ rows_of_all sets (with_pads ds qs)
-put sets ds l qs h = (λ i. with_rows sets 0 (h.rows i) (h.places i) qs) ∙ put_in sets 0 [] ds qs
+pub put : (details : Details) (ds : List Draft) (l : LedgerRows) (qs : List NotedPad)
+    → IsLedgerSoFar details ds l
+    → with_rows details 0 l.ledger.rows l.places.items qs ≡ rows_of_all details (with_pads ds qs)
+put details ds l qs h = (λ i. with_rows details 0 (h.rows i) (h.places i) qs) ∙ put_in details 0 [] ds qs
 
-pub is_ledger : (sets : AccountSets) (ds : List Draft) (l : LedgerRows) (qs : List NotedPad)
+pub is_ledger : (details : Details) (ds : List Draft) (l : LedgerRows) (qs : List NotedPad)
     (new : Ledger)
-    → IsLedgerSoFar sets ds l → new.rows ≡ rows_of_all sets (with_pads ds qs)
-    → new.decimals ≡ l.ledger.decimals → length (rows_of_all sets (with_pads ds qs)) ≤ MOST_POSTINGS
-    → IsLedgerOf sets (with_pads ds qs) new
-is_ledger sets ds l qs new h rows same few = record {
+    → IsLedgerSoFar details ds l → new.rows ≡ rows_of_all details (with_pads ds qs)
+    → new.decimals ≡ l.ledger.decimals → length (rows_of_all details (with_pads ds qs)) ≤ MOST_POSTINGS
+    → IsLedgerOf details (with_pads ds qs) new
+is_ledger details ds l qs new h rows same few = record {
   rows = rows;
   few = subst (λ r. length r ≤ MOST_POSTINGS) (sym rows) few;
   decimals = λ c.
@@ -63,11 +63,11 @@ is_ledger sets ds l qs new h rows same few = record {
 }
 
 -- as it is, where pads insert nothing
-pub is_ledger_so_far : (sets : AccountSets) (ds : List Draft) (l : LedgerRows)
-    (qs : List NotedPad) → IsLedgerSoFar sets ds l
-    → places_in ds ≡ length qs → length (flat_map (rows_of_pad sets) qs) ≡ 0
-    → length l.ledger.rows ≤ MOST_POSTINGS → IsLedgerOf sets (with_pads ds qs) l.ledger
-is_ledger_so_far sets ds l qs h as_many none few =
-    let all = rows_in_all sets ds l qs h as_many in
-    is_ledger sets ds l qs l.ledger h (h.rows ∙ sym (none_in sets ds qs none)) refl
+pub is_ledger_so_far : (details : Details) (ds : List Draft) (l : LedgerRows)
+    (qs : List NotedPad) → IsLedgerSoFar details ds l
+    → places_in ds ≡ length qs → length (flat_map (rows_of_pad details) qs) ≡ 0
+    → length l.ledger.rows ≤ MOST_POSTINGS → IsLedgerOf details (with_pads ds qs) l.ledger
+is_ledger_so_far details ds l qs h as_many none few =
+    let all = rows_in_all details ds l qs h as_many in
+    is_ledger details ds l qs l.ledger h (h.rows ∙ sym (none_in details ds qs none)) refl
     (omega (arith, all, none, few))

@@ -1,8 +1,9 @@
--- The rows of what is booked, with the sets of accounts and without.
-use Rattle.std.proofs.Common.{◌≡◌, ℕ, ◌≤◌, List, [], ◌∷◌, ◌++◌, length, map, refl, sym, ap, ◌∙◌}
-use Rattle.std.proofs.Common.{subst}
+-- The rows of what is booked, with few details and with all.
+use Rattle.std.proofs.Common.{◌≡◌, ℕ, ℤ, neg_ℤ, ◌≤◌, List, [], ◌∷◌, ◌++◌, length, map, Option, None}
+use Rattle.std.proofs.Common.{Some, refl, sym, ap, ◌∙◌, slice_get, subst}
 use Rattle.std.specs.List.{flat_map}
 use Rattle.std.proofs.lemmas.List.{length-map, map-append}
+use Rattle.bean_base.specs.Counts.{at_8}
 use Rattle.bean_postings.specs.declared.posting.Posting.{Posting}
 use Rattle.bean_pad.specs.declared.note.Note.{Note}
 use Rattle.bean_pad.specs.declared.note.NotedPad.{NotedPad}
@@ -13,93 +14,150 @@ use Rattle.bean_loaded.specs.Loaded.{Loaded}
 use Rattle.bean_replay.specs.Booked.{bookings_of}
 use Rattle.bean_replay.specs.declared.booking.Booking.{Booking}
 use Rattle.bean_replay.specs.declared.booking.Booking.TheVariants as booking
+use Rattle.bean_replay.specs.declared.booking.Kept.{Kept}
 use Rattle.limits.specs.declared.counts.TheConstants.{MOST_POSTINGS}
 use Rattle.posting_entries.specs.declared.entry.EntryParts.{EntryParts}
 use Rattle.posting_table.specs.declared.row.Row.{Row}
 use Rattle.bean_book.specs.Booked.{IsBookOf, rows_of_all}
-use Rattle.bean_book.specs.LeftOut.{IsSameButAccounts, entry_but_accounts, row_but_accounts}
-use Rattle.bean_book.specs.Rows.{entry_of, padding_entry, row_of, rows_by, rows_of, rows_of_note}
-use Rattle.bean_book.specs.Rows.{rows_of_pad}
-use Rattle.bean_book.specs.declared.account_sets.AccountSets.{AccountSets}
-use Rattle.bean_book.specs.declared.account_sets.AccountSets.TheVariants.{Made, LeftOut}
+use Rattle.bean_book.specs.Details.{told}
+use Rattle.bean_book.specs.LeftOut.{IsToldOf, entry_told, row_told}
+use Rattle.bean_book.specs.Rows.{entry_of, items_in, padding_entry, padding_row, row_by, row_of}
+use Rattle.bean_book.specs.Rows.{rows_by, rows_of, rows_of_note, rows_of_pad}
 use Rattle.bean_book.specs.declared.booked.Booked.{Booked}
+use Rattle.bean_book.specs.declared.details.Details.{Details}
+use Rattle.bean_book.specs.declared.details.Details.TheVariants.{All, ButAccounts, Few}
 
 -- what holds of the rows of each holds of those of all
-each_row : {X : Type 0} (f g : X → List Row) → ((x : X) → f x ≡ map row_but_accounts (g x))
-    → (xs : List X) → flat_map f xs ≡ map row_but_accounts (flat_map g xs)
-each_row f g each [] = refl
-each_row f g each (x ∷ xs) =
-    (λ i. each x i ++ each_row f g each xs i)
-    ∙ sym (map-append row_but_accounts (g x) (flat_map g xs))
+each_row : {X : Type 0} (details : Details) (f g : X → List Row)
+    → ((x : X) → f x ≡ map (row_told details) (g x)) → (xs : List X)
+    → flat_map f xs ≡ map (row_told details) (flat_map g xs)
+each_row details f g each [] = refl
+each_row details f g each (x ∷ xs) =
+    (λ i. each x i ++ each_row details f g each xs i)
+    ∙ sym (map-append (row_told details) (g x) (flat_map g xs))
 
-posted_rows : (e : EntryParts) (line : ℕ) (ps : List Posting) (posted : List Posted)
-    → map (row_of (entry_but_accounts e) line ps) posted
-    ≡ map row_but_accounts (map (row_of e line ps) posted)
-posted_rows e line ps [] = refl
-posted_rows e line ps (p ∷ posted) =
-    ap (λ l. row_of (entry_but_accounts e) line ps p ∷ l) (posted_rows e line ps posted)
+-- ---- transactions
 
-rows_by_outcome : (e : EntryParts) (n : NotedPad) (currency : List ℕ) (o : outcomes.Outcome)
-    → rows_by (entry_but_accounts e) n currency o ≡ map row_but_accounts (rows_by e n currency o)
-rows_by_outcome e n currency (outcome.Padding number) = refl
-rows_by_outcome e n currency outcome.AtCost = refl
-rows_by_outcome e n currency outcome.TooWide = refl
+entry_alike : (details : Details) (k : Kept)
+    → entry_of details k ≡ entry_told details (entry_of All k)
+entry_alike All k = refl
+entry_alike ButAccounts k = refl
+entry_alike Few k = refl
 
-pad_rows : (n : NotedPad) → rows_of_pad LeftOut n ≡ map row_but_accounts (rows_of_pad Made n)
-pad_rows n =
-    let e = padding_entry Made n in
-    each_row (rows_of_note (entry_but_accounts e) n) (rows_of_note e n)
-    (λ (note : Note). rows_by_outcome e n note.currency note.outcome) n.notes
+items_alike : (details : Details) (w : Option Posting)
+    → items_in details w ≡ told details (items_in All w)
+items_alike All w = refl
+items_alike ButAccounts None = refl
+items_alike ButAccounts (Some w) = refl
+items_alike Few None = refl
+items_alike Few (Some w) = refl
 
-booking_rows : (b : Booking) → rows_of LeftOut b ≡ map row_but_accounts (rows_of Made b)
-booking_rows (booking.Transaction k) =
-    posted_rows (entry_of Made k) k.written.place.line k.written.transaction.postings k.postings
-booking_rows (booking.Pad n) = pad_rows n
+row_alike : (details : Details) (e : EntryParts) (line : ℕ) (ps : List Posting) (p : Posted)
+    → row_of details (entry_told details e) line ps p ≡ row_told details (row_of All e line ps p)
+row_alike details e line ps p =
+    let w = slice_get ps p.written in
+    ap (λ items. row_by (entry_told details e) line items w p) (items_alike details w)
 
--- they are the same but for the accounts
-pub bare_rows : (bs : List Booking)
-    → rows_of_all LeftOut bs ≡ map row_but_accounts (rows_of_all Made bs)
-bare_rows bs = each_row (rows_of LeftOut) (rows_of Made) booking_rows bs
+posted_rows : (details : Details) (e : EntryParts) (line : ℕ) (ps : List Posting)
+    (posted : List Posted)
+    → map (row_of details (entry_told details e) line ps) posted
+    ≡ map (row_told details) (map (row_of All e line ps) posted)
+posted_rows details e line ps [] = refl
+posted_rows details e line ps (p ∷ posted) =
+    λ i. row_alike details e line ps p i ∷ posted_rows details e line ps posted i
+
+transaction_rows : (details : Details) (k : Kept)
+    → rows_of details (booking.Transaction k)
+    ≡ map (row_told details) (rows_of All (booking.Transaction k))
+transaction_rows details k =
+    let line = k.written.place.line in
+    let ps = k.written.transaction.postings in
+    ap (λ e. map (row_of details e line ps) k.postings) (entry_alike details k)
+    ∙ posted_rows details (entry_of All k) line ps k.postings
+
+-- ---- pads
+
+padding_alike : (details : Details) (n : NotedPad)
+    → padding_entry details n ≡ entry_told details (padding_entry All n)
+padding_alike All n = refl
+padding_alike ButAccounts n = refl
+padding_alike Few n = refl
+
+padded_alike : (details : Details) (e : EntryParts) (n : NotedPad) (account currency : List ℕ)
+    (count : ℤ)
+    → padding_row (entry_told details e) n account currency count
+    ≡ row_told details (padding_row e n account currency count)
+padded_alike All e n account currency count = refl
+padded_alike ButAccounts e n account currency count = refl
+padded_alike Few e n account currency count = refl
+
+rows_by_outcome : (details : Details) (e : EntryParts) (n : NotedPad) (currency : List ℕ)
+    (o : outcomes.Outcome)
+    → rows_by (entry_told details e) n currency o
+    ≡ map (row_told details) (rows_by e n currency o)
+rows_by_outcome details e n currency (outcome.Padding number) = λ i.
+    padded_alike details e n n.pad.account currency (at_8 number) i
+    ∷ padded_alike details e n n.pad.source currency (neg_ℤ (at_8 number)) i ∷ []
+rows_by_outcome details e n currency outcome.AtCost = refl
+rows_by_outcome details e n currency outcome.TooWide = refl
+
+pad_rows : (details : Details) (n : NotedPad)
+    → rows_of_pad details n ≡ map (row_told details) (rows_of_pad All n)
+pad_rows details n =
+    let e = padding_entry All n in
+    ap (λ (e : EntryParts). flat_map (rows_of_note e n) n.notes) (padding_alike details n)
+    ∙ each_row details (rows_of_note (entry_told details e) n) (rows_of_note e n)
+    (λ (note : Note). rows_by_outcome details e n note.currency note.outcome) n.notes
+
+-- ---- all
+
+booking_rows : (details : Details) (b : Booking)
+    → rows_of details b ≡ map (row_told details) (rows_of All b)
+booking_rows details (booking.Transaction k) = transaction_rows details k
+booking_rows details (booking.Pad n) = pad_rows details n
+
+-- they are the same but for what isn't told
+pub bare_rows : (details : Details) (bs : List Booking)
+    → rows_of_all details bs ≡ map (row_told details) (rows_of_all All bs)
+bare_rows details bs = each_row details (rows_of details) (rows_of All) (booking_rows details) bs
 
 -- so they are as many
 
-pub as_many_rows : (sets : AccountSets) (bs : List Booking)
-    → length (rows_of_all sets bs) ≡ length (rows_of_all Made bs)
-as_many_rows Made bs = refl
-as_many_rows LeftOut bs =
-    ap length (bare_rows bs) ∙ length-map (rows_of_all Made bs) row_but_accounts
+pub as_many_rows : (details : Details) (bs : List Booking)
+    → length (rows_of_all details bs) ≡ length (rows_of_all All bs)
+as_many_rows details bs =
+    ap length (bare_rows details bs) ∙ length-map (rows_of_all All bs) (row_told details)
 
-pub as_many_padded : (sets : AccountSets) (qs : List NotedPad)
-    → length (flat_map (rows_of_pad sets) qs) ≡ length (flat_map (rows_of_pad Made) qs)
-as_many_padded Made qs = refl
-as_many_padded LeftOut qs =
-    ap length (each_row (rows_of_pad LeftOut) (rows_of_pad Made) pad_rows qs)
-    ∙ length-map (flat_map (rows_of_pad Made) qs) row_but_accounts
+pub as_many_padded : (details : Details) (qs : List NotedPad)
+    → length (flat_map (rows_of_pad details) qs) ≡ length (flat_map (rows_of_pad All) qs)
+as_many_padded details qs =
+    ap length (each_row details (rows_of_pad details) (rows_of_pad All) (pad_rows details) qs)
+    ∙ length-map (flat_map (rows_of_pad All) qs) (row_told details)
 
--- the book with the sets, of one without
+-- the book with all details, of one with few
 
-with_sets : Booked → List Booking → Booked
-with_sets bare bs = record {
-  ledger = record { rows = rows_of_all Made bs; decimals = bare.ledger.decimals };
+with_all : Booked → List Booking → Booked
+with_all bare bs = record {
+  ledger = record { rows = rows_of_all All bs; decimals = bare.ledger.decimals };
   faults = bare.faults;
 }
 
-pub whole_book : (l : Loaded) (bare : Booked) → IsBookOf LeftOut l bare
-    → (whole : Booked) × IsBookOf Made l whole × IsSameButAccounts bare whole
-unfolding with_sets
-whole_book l bare h =
+pub whole_book : (details : Details) (l : Loaded) (bare : Booked) → IsBookOf details l bare
+    → (whole : Booked) × IsBookOf All l whole × IsToldOf details bare whole
+unfolding with_all
+whole_book details l bare h =
     let bs = bookings_of h.stand in (
-      with_sets bare bs,
+      with_all bare bs,
       record {
         stand = h.stand;
         leads = h.leads;
         ledger = record {
           rows = refl;
-          few = subst (λ n. n ≤ MOST_POSTINGS) (ap length h.ledger.rows ∙ as_many_rows LeftOut bs)
-              h.ledger.few;
+          few = subst (λ n. n ≤ MOST_POSTINGS)
+              (ap length h.ledger.rows ∙ as_many_rows details bs) h.ledger.few;
           decimals = h.ledger.decimals;
         };
         faults = h.faults;
       },
-      record { rows = h.ledger.rows ∙ bare_rows bs; decimals = refl; faults = refl },
+      record { rows = h.ledger.rows ∙ bare_rows details bs; decimals = refl; faults = refl },
     )

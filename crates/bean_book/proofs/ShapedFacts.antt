@@ -40,15 +40,17 @@ use Rattle.posting_table.specs.Parts.{HasShortTexts, HasSmallParts, IsShortLot, 
 use Rattle.posting_table.specs.Shaped.{AreShort}
 use Rattle.query_rows.specs.Shaped.{IsShortIfThere}
 use Rattle.posting_entries.specs.declared.entry.EntryParts.{EntryParts}
+use Rattle.posting_entries.specs.declared.metadata.MetaItem.{MetaItem}
 use Rattle.query_rows.specs.Mass.{value_of}
 use Rattle.query_values.specs.TextSet.{set_of}
 use Rattle.theory.proofs.OnceFacts.{all_once, few_once}
+use Rattle.bean_book.specs.Details.{accounts_told, told}
 use Rattle.bean_book.specs.Metadata.{amount_text, item_of, items_of, num_text, text_of}
-use Rattle.bean_book.specs.Rows.{account_set, entry_of, link_in, padding_entry, padding_row}
-use Rattle.bean_book.specs.Rows.{row_by, row_of, tag_in, unit_price}
+use Rattle.bean_book.specs.Rows.{entry_of, items_in, link_in, padding_entry, padding_row, row_by}
+use Rattle.bean_book.specs.Rows.{row_of, tag_in, unit_price}
 use Rattle.bean_book.specs.Tame.{IsTameKept}
-use Rattle.bean_book.specs.declared.account_sets.AccountSets.{AccountSets}
-use Rattle.bean_book.specs.declared.account_sets.AccountSets.TheVariants.{Made, LeftOut}
+use Rattle.bean_book.specs.declared.details.Details.{Details}
+use Rattle.bean_book.specs.declared.details.Details.TheVariants.{All, ButAccounts, Few}
 
 -- ---- texts
 
@@ -88,6 +90,21 @@ short_items es h =
     all_mapped IsShortEntry (λ item. IsShortIfThere item.text) item_of
     (λ e k. short_value e.value k.1) es h
 
+-- ---- what is told of lists
+
+-- no more than all of it
+few_told : {X : Type 0} (details : Details) (xs : List X) → length (told details xs) ≤ length xs
+few_told All xs = omega arith
+few_told ButAccounts xs = omega arith
+few_told Few xs = omega arith
+
+-- what holds of all of it
+all_told : {X : Type 0} (P : X → Type 0) (details : Details) (xs : List X) → AllByRecursion P xs
+    → AllByRecursion P (told details xs)
+all_told P All xs h = h
+all_told P ButAccounts xs h = h
+all_told P Few xs h = tt
+
 -- ---- what a transaction's rows have in common
 
 short_set : (ts : List (List ℕ)) → length ts ≤ most → AllByRecursion IsShort ts
@@ -114,32 +131,38 @@ short_link : (m : Mark) → IsShortMark m → AllByRecursion IsShort (link_in m)
 short_link (Tag name) h = tt
 short_link (Link name) h = (h, tt)
 
--- the set is as short as what it is made of, made or left out
-short_accounts : (sets : AccountSets) (ts : List (List ℕ)) → length ts ≤ most
-    → AllByRecursion IsShort ts → IsShortSet (account_set sets ts)
-short_accounts Made ts few all = short_set ts few all
-short_accounts LeftOut ts few all = (omega arith, tt)
+-- the set of accounts is as short as they are, told or not
+short_accounts : (details : Details) (ts : List (List ℕ)) → length ts ≤ most
+    → AllByRecursion IsShort ts → IsShortSet (set_of (accounts_told details ts))
+short_accounts All ts few all = short_set ts few all
+short_accounts ButAccounts ts few all = (omega arith, tt)
+short_accounts Few ts few all = (omega arith, tt)
 
-pub entry_short : (sets : AccountSets) (k : Kept) → IsTameKept k → HasShortTexts (entry_of sets k)
-entry_short sets k h =
+pub entry_short : (details : Details) (k : Kept) → IsTameKept k
+    → HasShortTexts (entry_of details k)
+entry_short details k h =
     let t : Transaction = k.written.transaction in
     let small = h.small in
-    let tags = few_tags t.marks in
-    let links = few_links t.marks in
+    let marks = told details t.marks in
+    let short = all_told IsShortMark details t.marks small.transaction.marks in
+    let as_few = few_told details t.marks in
+    let tags = few_tags marks in
+    let links = few_links marks in
     let accounts = length-map k.postings (λ (p : Posted). p.account) in
     let few = h.few in
     let few_marks = small.few_marks in record {
       payee = if_there t.payee small.transaction.payee;
       narration = small.transaction.narration;
-      tags = short_set (flat_map tag_in t.marks) (omega (arith, tags, few_marks))
-          (all_flat IsShortMark IsShort tag_in short_tag t.marks small.transaction.marks);
-      links = short_set (flat_map link_in t.marks) (omega (arith, links, few_marks))
-          (all_flat IsShortMark IsShort link_in short_link t.marks small.transaction.marks);
-      accounts = short_accounts sets (map (λ p. p.account) k.postings)
+      tags = short_set (flat_map tag_in marks) (omega (arith, tags, as_few, few_marks))
+          (all_flat IsShortMark IsShort tag_in short_tag marks short);
+      links = short_set (flat_map link_in marks) (omega (arith, links, as_few, few_marks))
+          (all_flat IsShortMark IsShort link_in short_link marks short);
+      accounts = short_accounts details (map (λ p. p.account) k.postings)
           (omega (arith, accounts, few))
           (all_mapped IsSmallPosted IsShort (λ p. p.account) (λ p k. k.account) k.postings
           small.postings);
-      texts = short_items k.written.metadata small.metadata;
+      texts = short_items (told details k.written.metadata)
+          (all_told IsShortEntry details k.written.metadata small.metadata);
     }
 
 -- ---- rows of transactions
@@ -174,10 +197,18 @@ price_short (price.PerUnit amount) h = short_currency amount.currency h
 price_short (price.Total amount) h = tt
 price_short price.OutsideProfile h = tt
 
-row_by_small : (e : EntryParts) (line : ℕ) (w : Option Posting) (p : Posted) → HasShortTexts e
-    → IsSmallPosted p → IsLight (leg.Whole (whole_at w p)) → IfSome w IsSmallPosting
-    → line ≤ most → HasSmallParts (row_by e line w p)
-row_by_small e line None p texts small light written at = record {
+items_short : (details : Details) (w : Option Posting) → IfSome w IsSmallPosting
+    → AreShort (items_in details w)
+items_short details None small = tt
+items_short details (Some w) small =
+    short_items (told details w.details.metadata)
+    (all_told IsShortEntry details w.details.metadata small.metadata)
+
+row_by_small : (e : EntryParts) (line : ℕ) (items : List MetaItem) (w : Option Posting)
+    (p : Posted) → HasShortTexts e → AreShort items → IsSmallPosted p
+    → IsLight (leg.Whole (whole_at w p)) → IfSome w IsSmallPosting → line ≤ most
+    → HasSmallParts (row_by e line items w p)
+row_by_small e line items None p texts short small light written at = record {
   entry = texts;
   account = small.account;
   currency = short_currency p.units.currency small.currency;
@@ -188,9 +219,9 @@ row_by_small e line None p texts small light written at = record {
   weight_currency = worth_short p.units p.lot price.Absent small.currency small.lot tt;
   price = tt;
   line = at;
-  texts = tt;
+  texts = short;
 }
-row_by_small e line (Some w) p texts small light written at = record {
+row_by_small e line items (Some w) p texts short small light written at = record {
   entry = texts;
   account = small.account;
   currency = short_currency p.units.currency small.currency;
@@ -202,26 +233,27 @@ row_by_small e line (Some w) p texts small light written at = record {
       worth_short p.units p.lot w.details.price small.currency small.lot written.price;
   price = price_short w.details.price written.price;
   line = written.line;
-  texts = short_items w.details.metadata written.metadata;
+  texts = short;
 }
 
-pub row_small : (e : EntryParts) (line : ℕ) (ps : List Posting) (p : Posted) → HasShortTexts e
-    → IsSmallPosted p → IsLight (booked_leg ps p) → AllByRecursion IsSmallPosting ps
-    → line ≤ most → HasSmallParts (row_of e line ps p)
-row_small e line ps p texts small light written at =
-    row_by_small e line (slice_get ps p.written) p texts small light
-    (all_at IsSmallPosting ps p.written written) at
+pub row_small : (details : Details) (e : EntryParts) (line : ℕ) (ps : List Posting) (p : Posted)
+    → HasShortTexts e → IsSmallPosted p → IsLight (booked_leg ps p)
+    → AllByRecursion IsSmallPosting ps → line ≤ most → HasSmallParts (row_of details e line ps p)
+row_small details e line ps p texts small light written at =
+    let w = slice_get ps p.written in
+    let own = all_at IsSmallPosting ps p.written written in
+    row_by_small e line (items_in details w) w p texts (items_short details w own) small light own at
 
 -- ---- rows of pads
 
-pub padding_short : (sets : AccountSets) (n : NotedPad) → IsSmallPad n.pad
-    → HasShortTexts (padding_entry sets n)
-padding_short sets n h = record {
+pub padding_short : (details : Details) (n : NotedPad) → IsSmallPad n.pad
+    → HasShortTexts (padding_entry details n)
+padding_short details n h = record {
   payee = tt;
   narration = omega arith;
   tags = (omega arith, tt);
   links = (omega arith, tt);
-  accounts = short_accounts sets (n.pad.account ∷ n.pad.source ∷ []) (omega arith)
+  accounts = short_accounts details (n.pad.account ∷ n.pad.source ∷ []) (omega arith)
       (h.account, (h.source, tt));
   texts = tt;
 }

@@ -18,17 +18,17 @@ use Rattle.bean_book.specs.Booked.{Adds, decimals_from, rows_of_all, written_in_
 use Rattle.bean_book.specs.Rows.{entry_of, row_of, rows_of_pad, rows_of_transaction, written_of}
 use Rattle.bean_book.specs.Taken.{IsLedgerSoFar, amounts_in, kept_amounts, kept_rows, places_from}
 use Rattle.bean_book.specs.Taken.{rows_in, with_rows}
-use Rattle.bean_book.specs.declared.account_sets.AccountSets.{AccountSets}
+use Rattle.bean_book.specs.declared.details.Details.{Details}
 use Rattle.bean_book.specs.declared.ledger.LedgerRows.{LedgerRows}
 use Rattle.bean_book.proofs.ListFacts.{decimals_from-append}
 
 -- ---- one more booking
 
-rows_more : (sets : AccountSets) (ds : List Draft) (d : Draft)
-    → kept_rows sets (ds ++ d ∷ []) ≡ kept_rows sets ds ++ rows_in sets d
-rows_more sets ds d =
-    flat_map-append (rows_in sets) ds (d ∷ [])
-    ∙ ap (λ l. kept_rows sets ds ++ l) (append-nil (rows_in sets d))
+rows_more : (details : Details) (ds : List Draft) (d : Draft)
+    → kept_rows details (ds ++ d ∷ []) ≡ kept_rows details ds ++ rows_in details d
+rows_more details ds d =
+    flat_map-append (rows_in details) ds (d ∷ [])
+    ∙ ap (λ l. kept_rows details ds ++ l) (append-nil (rows_in details d))
 
 amounts_more : (ds : List Draft) (d : Draft)
     → kept_amounts (ds ++ d ∷ []) ≡ kept_amounts ds ++ amounts_in d
@@ -37,21 +37,21 @@ amounts_more ds d =
     ∙ ap (λ l. kept_amounts ds ++ l) (append-nil (amounts_in d))
 
 -- each posting of a transaction has a row
-one_each : (sets : AccountSets) (k : Kept) → length (rows_of_transaction sets k) ≡ length k.postings
-one_each sets k =
+one_each : (details : Details) (k : Kept) → length (rows_of_transaction details k) ≡ length k.postings
+one_each details k =
     length-map k.postings
-    (row_of (entry_of sets k) k.written.place.line k.written.transaction.postings)
+    (row_of details (entry_of details k) k.written.place.line k.written.transaction.postings)
 
-row_each : (sets : AccountSets) (d : Draft) → length (rows_in sets d) ≡ length (postings_in d)
-row_each sets (draft.Transaction k) = one_each sets k
-row_each sets draft.Pad = refl
+row_each : (details : Details) (d : Draft) → length (rows_in details d) ≡ length (postings_in d)
+row_each details (draft.Transaction k) = one_each details k
+row_each details draft.Pad = refl
 
-pub kept_count : (sets : AccountSets) (ds : List Draft)
-    → length (kept_rows sets ds) ≡ length (postings_of ds)
-kept_count sets [] = refl
-kept_count sets (d ∷ ds) =
-    length-append (rows_in sets d) (kept_rows sets ds)
-    ∙ (λ i. row_each sets d i + kept_count sets ds i)
+pub kept_count : (details : Details) (ds : List Draft)
+    → length (kept_rows details ds) ≡ length (postings_of ds)
+kept_count details [] = refl
+kept_count details (d ∷ ds) =
+    length-append (rows_in details d) (kept_rows details ds)
+    ∙ (λ i. row_each details d i + kept_count details ds i)
     ∙ sym (length-append (postings_in d) (postings_of ds))
 
 places_kept : (n : ℕ) (ds : List Draft) (k : Kept)
@@ -60,27 +60,27 @@ places_kept n [] k = refl
 places_kept n (draft.Transaction j ∷ ds) k = places_kept (n + length j.postings) ds k
 places_kept n (draft.Pad ∷ ds) k = ap (λ l. n ∷ l) (places_kept n ds k)
 
-places_pad : (sets : AccountSets) (n : ℕ) (ds : List Draft)
+places_pad : (details : Details) (n : ℕ) (ds : List Draft)
     → places_from n (ds ++ draft.Pad ∷ [])
-    ≡ places_from n ds ++ (n + length (kept_rows sets ds)) ∷ []
-places_pad sets n [] = let none : n ≡ n + 0 = omega arith in ap (λ m. m ∷ []) none
-places_pad sets n (draft.Transaction k ∷ ds) =
-    let both = length-append (rows_of_transaction sets k) (kept_rows sets ds) in
-    let own = one_each sets k in
-    let more : n + length k.postings + length (kept_rows sets ds)
-    ≡ n + length (kept_rows sets (draft.Transaction k ∷ ds)) = omega (arith, both, own) in
-    places_pad sets (n + length k.postings) ds
+    ≡ places_from n ds ++ (n + length (kept_rows details ds)) ∷ []
+places_pad details n [] = let none : n ≡ n + 0 = omega arith in ap (λ m. m ∷ []) none
+places_pad details n (draft.Transaction k ∷ ds) =
+    let both = length-append (rows_of_transaction details k) (kept_rows details ds) in
+    let own = one_each details k in
+    let more : n + length k.postings + length (kept_rows details ds)
+    ≡ n + length (kept_rows details (draft.Transaction k ∷ ds)) = omega (arith, both, own) in
+    places_pad details (n + length k.postings) ds
     ∙ ap (λ m. places_from (n + length k.postings) ds ++ m ∷ []) more
-places_pad sets n (draft.Pad ∷ ds) = ap (λ l. n ∷ l) (places_pad sets n ds)
+places_pad details n (draft.Pad ∷ ds) = ap (λ l. n ∷ l) (places_pad details n ds)
 
-pub kept_more : (sets : AccountSets) (ds : List Draft) (k : Kept) (old new : LedgerRows)
-    → IsLedgerSoFar sets ds old
-    → Adds sets (booking.Transaction k) old.ledger new.ledger → new.places.items ≡ old.places.items
-    → IsLedgerSoFar sets (ds ++ draft.Transaction k ∷ []) new
-kept_more sets ds k old new h adds same = record {
+pub kept_more : (details : Details) (ds : List Draft) (k : Kept) (old new : LedgerRows)
+    → IsLedgerSoFar details ds old
+    → Adds details (booking.Transaction k) old.ledger new.ledger → new.places.items ≡ old.places.items
+    → IsLedgerSoFar details (ds ++ draft.Transaction k ∷ []) new
+kept_more details ds k old new h adds same = record {
   rows =
-      adds.rows ∙ ap (λ l. l ++ rows_of_transaction sets k) h.rows
-      ∙ sym (rows_more sets ds (draft.Transaction k));
+      adds.rows ∙ ap (λ l. l ++ rows_of_transaction details k) h.rows
+      ∙ sym (rows_more details ds (draft.Transaction k));
   decimals = λ c.
       adds.decimals c
       ∙ ap (λ n. decimals_from n c (written_of (booking.Transaction k))) (h.decimals c)
@@ -89,38 +89,38 @@ kept_more sets ds k old new h adds same = record {
   places = same ∙ h.places ∙ sym (places_kept 0 ds k);
 }
 
-pub pad_more : (sets : AccountSets) (ds : List Draft) (old new : LedgerRows)
-    → IsLedgerSoFar sets ds old
+pub pad_more : (details : Details) (ds : List Draft) (old new : LedgerRows)
+    → IsLedgerSoFar details ds old
     → new.ledger ≡ old.ledger
     → new.places.items ≡ old.places.items ++ length old.ledger.rows ∷ []
-    → IsLedgerSoFar sets (ds ++ draft.Pad ∷ []) new
-pad_more sets ds old new h same more = record {
+    → IsLedgerSoFar details (ds ++ draft.Pad ∷ []) new
+pad_more details ds old new h same more = record {
   rows =
-      ap (λ l. l.rows) same ∙ h.rows ∙ sym (append-nil (kept_rows sets ds))
-      ∙ sym (rows_more sets ds draft.Pad);
+      ap (λ l. l.rows) same ∙ h.rows ∙ sym (append-nil (kept_rows details ds))
+      ∙ sym (rows_more details ds draft.Pad);
   decimals = λ c.
       ap (λ l. decimals_of l.decimals c) same ∙ h.decimals c
       ∙ ap (decimals_from 0 c)
       (sym (append-nil (kept_amounts ds)) ∙ sym (amounts_more ds draft.Pad));
   places =
-      let all : length (kept_rows sets ds) ≡ 0 + length (kept_rows sets ds) = omega arith in
+      let all : length (kept_rows details ds) ≡ 0 + length (kept_rows details ds) = omega arith in
       more ∙ (λ i. h.places i ++ length (h.rows i) ∷ [])
-      ∙ ap (λ n. places_from 0 ds ++ n ∷ []) all ∙ sym (places_pad sets 0 ds);
+      ∙ ap (λ n. places_from 0 ds ++ n ∷ []) all ∙ sym (places_pad details 0 ds);
 }
 
 -- ---- the rows of pads, put in
 
-nowhere : (sets : AccountSets) (n : ℕ) (rows : List Row) (qs : List NotedPad)
-    → with_rows sets n rows [] qs ≡ rows
-nowhere sets n rows [] = refl
-nowhere sets n rows (q ∷ qs) = nowhere sets n rows qs
+nowhere : (details : Details) (n : ℕ) (rows : List Row) (qs : List NotedPad)
+    → with_rows details n rows [] qs ≡ rows
+nowhere details n rows [] = refl
+nowhere details n rows (q ∷ qs) = nowhere details n rows qs
 
-without : (sets : AccountSets) (ds : List Draft)
-    → rows_of_all sets (with_pads ds []) ≡ kept_rows sets ds
-without sets [] = refl
-without sets (draft.Transaction k ∷ ds) =
-    ap (λ l. rows_of_transaction sets k ++ l) (without sets ds)
-without sets (draft.Pad ∷ ds) = without sets ds
+without : (details : Details) (ds : List Draft)
+    → rows_of_all details (with_pads ds []) ≡ kept_rows details ds
+without details [] = refl
+without details (draft.Transaction k ∷ ds) =
+    ap (λ l. rows_of_transaction details k ++ l) (without details ds)
+without details (draft.Pad ∷ ds) = without details ds
 
 taken_front : (a rest : List Row) → take (length a) (a ++ rest) ≡ a
 taken_front [] rest = refl
@@ -130,75 +130,75 @@ dropped_front : (a rest : List Row) → drop (length a) (a ++ rest) ≡ rest
 dropped_front [] rest = refl
 dropped_front (x ∷ a) rest = dropped_front a rest
 
-pub put_in : (sets : AccountSets) (n : ℕ) (a : List Row) (ds : List Draft) (qs : List NotedPad)
-    → with_rows sets n (a ++ kept_rows sets ds) (places_from (n + length a) ds) qs
-    ≡ a ++ rows_of_all sets (with_pads ds qs)
-put_in sets n a ds [] = ap (λ l. a ++ l) (sym (without sets ds))
-put_in sets n a [] (q ∷ qs) = nowhere sets n (a ++ []) qs
-put_in sets n a (draft.Transaction k ∷ ds) (q ∷ qs) =
-    let own = rows_of_transaction sets k in
-    let each = one_each sets k in
+pub put_in : (details : Details) (n : ℕ) (a : List Row) (ds : List Draft) (qs : List NotedPad)
+    → with_rows details n (a ++ kept_rows details ds) (places_from (n + length a) ds) qs
+    ≡ a ++ rows_of_all details (with_pads ds qs)
+put_in details n a ds [] = ap (λ l. a ++ l) (sym (without details ds))
+put_in details n a [] (q ∷ qs) = nowhere details n (a ++ []) qs
+put_in details n a (draft.Transaction k ∷ ds) (q ∷ qs) =
+    let own = rows_of_transaction details k in
+    let each = one_each details k in
     let both = length-append a own in
     let at : n + length a + length k.postings ≡ n + length (a ++ own) = omega (arith, each, both) in
-    (λ i. with_rows sets n (sym (append_assoc a own (kept_rows sets ds)) i) (places_from (at i) ds)
+    (λ i. with_rows details n (sym (append_assoc a own (kept_rows details ds)) i) (places_from (at i) ds)
     (q ∷ qs))
-    ∙ put_in sets n (a ++ own) ds (q ∷ qs)
-    ∙ append_assoc a own (rows_of_all sets (with_pads ds (q ∷ qs)))
-put_in sets n a (draft.Pad ∷ ds) (q ∷ qs) =
-    let rest = kept_rows sets ds in
+    ∙ put_in details n (a ++ own) ds (q ∷ qs)
+    ∙ append_assoc a own (rows_of_all details (with_pads ds (q ∷ qs)))
+put_in details n a (draft.Pad ∷ ds) (q ∷ qs) =
+    let rest = kept_rows details ds in
     let p = n + length a in
     let passed : p - n ≡ length a = omega arith in
     let here : p ≡ p + 0 = omega arith in
     let front = ap (λ m. take m (a ++ rest)) passed ∙ taken_front a rest in
     let behind = ap (λ m. drop m (a ++ rest)) passed ∙ dropped_front a rest in
-    (λ i. (front i ++ rows_of_pad sets q) ++ with_rows sets p (behind i) (places_from (here i) ds) qs)
-    ∙ ap (λ l. (a ++ rows_of_pad sets q) ++ l) (put_in sets p [] ds qs)
-    ∙ append_assoc a (rows_of_pad sets q) (rows_of_all sets (with_pads ds qs))
+    (λ i. (front i ++ rows_of_pad details q) ++ with_rows details p (behind i) (places_from (here i) ds) qs)
+    ∙ ap (λ l. (a ++ rows_of_pad details q) ++ l) (put_in details p [] ds qs)
+    ∙ append_assoc a (rows_of_pad details q) (rows_of_all details (with_pads ds qs))
 
 -- where pads insert nothing the rows are those of the transactions
-pub none_in : (sets : AccountSets) (ds : List Draft) (qs : List NotedPad)
-    → length (flat_map (rows_of_pad sets) qs) ≡ 0
-    → rows_of_all sets (with_pads ds qs) ≡ kept_rows sets ds
-none_in sets [] qs none = refl
-none_in sets (draft.Transaction k ∷ ds) qs none =
-    ap (λ l. rows_of_transaction sets k ++ l) (none_in sets ds qs none)
-none_in sets (draft.Pad ∷ ds) [] none = none_in sets ds [] none
-none_in sets (draft.Pad ∷ ds) (q ∷ qs) none =
-    let both = length-append (rows_of_pad sets q) (flat_map (rows_of_pad sets) qs) in
-    ap (λ l. l ++ rows_of_all sets (with_pads ds qs))
-    (empty (rows_of_pad sets q) (omega (arith, both, none)))
-    ∙ none_in sets ds qs (omega (arith, both, none))
+pub none_in : (details : Details) (ds : List Draft) (qs : List NotedPad)
+    → length (flat_map (rows_of_pad details) qs) ≡ 0
+    → rows_of_all details (with_pads ds qs) ≡ kept_rows details ds
+none_in details [] qs none = refl
+none_in details (draft.Transaction k ∷ ds) qs none =
+    ap (λ l. rows_of_transaction details k ++ l) (none_in details ds qs none)
+none_in details (draft.Pad ∷ ds) [] none = none_in details ds [] none
+none_in details (draft.Pad ∷ ds) (q ∷ qs) none =
+    let both = length-append (rows_of_pad details q) (flat_map (rows_of_pad details) qs) in
+    ap (λ l. l ++ rows_of_all details (with_pads ds qs))
+    (empty (rows_of_pad details q) (omega (arith, both, none)))
+    ∙ none_in details ds qs (omega (arith, both, none))
 
-pub all_count : (sets : AccountSets) (ds : List Draft) (qs : List NotedPad)
+pub all_count : (details : Details) (ds : List Draft) (qs : List NotedPad)
     → places_in ds ≡ length qs
-    → length (rows_of_all sets (with_pads ds qs))
-    ≡ length (postings_of ds) + length (flat_map (rows_of_pad sets) qs)
-all_count sets [] [] as_many = refl
-all_count sets [] (q ∷ qs) as_many = absurd (omega (arith, as_many))
-all_count sets (draft.Transaction k ∷ ds) qs as_many =
-    let rows = length-append (rows_of_transaction sets k) (rows_of_all sets (with_pads ds qs)) in
-    let own = one_each sets k in
+    → length (rows_of_all details (with_pads ds qs))
+    ≡ length (postings_of ds) + length (flat_map (rows_of_pad details) qs)
+all_count details [] [] as_many = refl
+all_count details [] (q ∷ qs) as_many = absurd (omega (arith, as_many))
+all_count details (draft.Transaction k ∷ ds) qs as_many =
+    let rows = length-append (rows_of_transaction details k) (rows_of_all details (with_pads ds qs)) in
+    let own = one_each details k in
     let postings = length-append k.postings (postings_of ds) in
-    let later = all_count sets ds qs as_many in omega (arith, rows, own, postings, later)
-all_count sets (draft.Pad ∷ ds) [] as_many = absurd (omega (arith, as_many))
-all_count sets (draft.Pad ∷ ds) (q ∷ qs) as_many =
-    let rows = length-append (rows_of_pad sets q) (rows_of_all sets (with_pads ds qs)) in
-    let pads = length-append (rows_of_pad sets q) (flat_map (rows_of_pad sets) qs) in
-    let later = all_count sets ds qs (omega (arith, as_many)) in omega (arith, rows, pads, later)
+    let later = all_count details ds qs as_many in omega (arith, rows, own, postings, later)
+all_count details (draft.Pad ∷ ds) [] as_many = absurd (omega (arith, as_many))
+all_count details (draft.Pad ∷ ds) (q ∷ qs) as_many =
+    let rows = length-append (rows_of_pad details q) (rows_of_all details (with_pads ds qs)) in
+    let pads = length-append (rows_of_pad details q) (flat_map (rows_of_pad details) qs) in
+    let later = all_count details ds qs (omega (arith, as_many)) in omega (arith, rows, pads, later)
 
 -- each kept posting has a row
-pub kept_within : (sets : AccountSets) (ds : List Draft) (qs : List NotedPad)
-    → length (postings_of ds) ≤ length (rows_of_all sets (with_pads ds qs))
-kept_within sets [] qs = omega arith
-kept_within sets (draft.Transaction k ∷ ds) qs =
-    let rows = length-append (rows_of_transaction sets k) (rows_of_all sets (with_pads ds qs)) in
-    let own = one_each sets k in
+pub kept_within : (details : Details) (ds : List Draft) (qs : List NotedPad)
+    → length (postings_of ds) ≤ length (rows_of_all details (with_pads ds qs))
+kept_within details [] qs = omega arith
+kept_within details (draft.Transaction k ∷ ds) qs =
+    let rows = length-append (rows_of_transaction details k) (rows_of_all details (with_pads ds qs)) in
+    let own = one_each details k in
     let postings = length-append k.postings (postings_of ds) in
-    let later = kept_within sets ds qs in omega (arith, rows, own, postings, later)
-kept_within sets (draft.Pad ∷ ds) [] = kept_within sets ds []
-kept_within sets (draft.Pad ∷ ds) (q ∷ qs) =
-    let rows = length-append (rows_of_pad sets q) (rows_of_all sets (with_pads ds qs)) in
-    let later = kept_within sets ds qs in omega (arith, rows, later)
+    let later = kept_within details ds qs in omega (arith, rows, own, postings, later)
+kept_within details (draft.Pad ∷ ds) [] = kept_within details ds []
+kept_within details (draft.Pad ∷ ds) (q ∷ qs) =
+    let rows = length-append (rows_of_pad details q) (rows_of_all details (with_pads ds qs)) in
+    let later = kept_within details ds qs in omega (arith, rows, later)
 
 -- pads write no number
 pub amounts_are : (ds : List Draft) (qs : List NotedPad)
@@ -215,26 +215,26 @@ halves : (n : ℕ) (rows : List Row) → length (take n rows) + length (drop n r
 halves n rows =
     sym (length-append (take n rows) (drop n rows)) ∙ ap length (take-append-drop n rows)
 
-pub rest_within : (sets : AccountSets) (n : ℕ) (rows : List Row) (places : List ℕ)
+pub rest_within : (details : Details) (n : ℕ) (rows : List Row) (places : List ℕ)
     (qs : List NotedPad)
-    → length rows ≤ length (with_rows sets n rows places qs)
-rest_within sets n rows places [] = omega arith
-rest_within sets n rows [] (q ∷ qs) = rest_within sets n rows [] qs
-rest_within sets n rows (p ∷ places) (q ∷ qs) =
+    → length rows ≤ length (with_rows details n rows places qs)
+rest_within details n rows places [] = omega arith
+rest_within details n rows [] (q ∷ qs) = rest_within details n rows [] qs
+rest_within details n rows (p ∷ places) (q ∷ qs) =
     let front = take (p - n) rows in
     let rest = drop (p - n) rows in
-    let whole = length-append (front ++ rows_of_pad sets q) (with_rows sets p rest places qs) in
-    let both = length-append front (rows_of_pad sets q) in
-    let later = rest_within sets p rest places qs in
+    let whole = length-append (front ++ rows_of_pad details q) (with_rows details p rest places qs) in
+    let both = length-append front (rows_of_pad details q) in
+    let later = rest_within details p rest places qs in
     let parts = halves (p - n) rows in omega (arith, whole, both, later, parts)
 
-pub pad_within : (sets : AccountSets) (n p : ℕ) (rows : List Row) (places : List ℕ)
+pub pad_within : (details : Details) (n p : ℕ) (rows : List Row) (places : List ℕ)
     (q : NotedPad) (qs : List NotedPad)
-    → length rows + length (rows_of_pad sets q) ≤ length (with_rows sets n rows (p ∷ places) (q ∷ qs))
-pad_within sets n p rows places q qs =
+    → length rows + length (rows_of_pad details q) ≤ length (with_rows details n rows (p ∷ places) (q ∷ qs))
+pad_within details n p rows places q qs =
     let front = take (p - n) rows in
     let rest = drop (p - n) rows in
-    let whole = length-append (front ++ rows_of_pad sets q) (with_rows sets p rest places qs) in
-    let both = length-append front (rows_of_pad sets q) in
-    let later = rest_within sets p rest places qs in
+    let whole = length-append (front ++ rows_of_pad details q) (with_rows details p rest places qs) in
+    let both = length-append front (rows_of_pad details q) in
+    let later = rest_within details p rest places qs in
     let parts = halves (p - n) rows in omega (arith, whole, both, later, parts)

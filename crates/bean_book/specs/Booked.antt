@@ -18,9 +18,9 @@ use Rattle.limits.specs.declared.counts.TheConstants.{MOST_POSTINGS}
 use Rattle.posting_table.specs.declared.row.Row.{Row}
 use Rattle.bean_book.specs.Reported.{reported}
 use Rattle.bean_book.specs.Rows.{rows_of, written_of}
-use Rattle.bean_book.specs.declared.account_sets.AccountSets.{AccountSets}
-use Rattle.bean_book.specs.declared.account_sets.AccountSets.TheVariants.{Made}
 use Rattle.bean_book.specs.declared.booked.Booked as declared
+use Rattle.bean_book.specs.declared.details.Details.{Details}
+use Rattle.bean_book.specs.declared.details.Details.TheVariants.{All}
 
 -- the greatest of n and the counts of decimals in the numbers written for the currency
 abbrev pub decimals_from : ℕ → List ℕ → List Amount → ℕ
@@ -28,44 +28,44 @@ decimals_from n currency amounts =
     fold max n
     (map (λ a. a.number.places) (filter (λ a. bytes_eq a.currency currency) amounts))
 
-abbrev pub rows_of_all : AccountSets → List Booking → List Row
-rows_of_all sets bs = flat_map (rows_of sets) bs
+abbrev pub rows_of_all : Details → List Booking → List Row
+rows_of_all details bs = flat_map (rows_of details) bs
 
 abbrev pub written_in_all : List Booking → List Amount
 written_in_all bs = flat_map written_of bs
 
 -- one ledger has the rows of a booking behind those of another, and shows its decimals too
-pub record Adds (sets : AccountSets) (b : Booking) (old new : tables.Ledger) : Type 0 where
-  pub rows : new.rows ≡ old.rows ++ rows_of sets b
+pub record Adds (details : Details) (b : Booking) (old new : tables.Ledger) : Type 0 where
+  pub rows : new.rows ≡ old.rows ++ rows_of details b
   pub decimals : (currency : List ℕ)
       → decimals_of new.decimals currency
       ≡ decimals_from (decimals_of old.decimals currency) currency (written_of b)
 
 -- a ledger has the rows of these bookings, and shows for each currency the most decimals that are
 -- written for it in a transaction of theirs
-pub record IsLedgerOf (sets : AccountSets) (bs : List Booking) (ledger : tables.Ledger)
+pub record IsLedgerOf (details : Details) (bs : List Booking) (ledger : tables.Ledger)
     : Type 0 where
-  pub rows : ledger.rows ≡ rows_of_all sets bs
+  pub rows : ledger.rows ≡ rows_of_all details bs
   pub few : length ledger.rows ≤ MOST_POSTINGS
   pub decimals : (currency : List ℕ)
       → decimals_of ledger.decimals currency ≡ decimals_from 0 currency (written_in_all bs)
 
--- with the sets of accounts, and so without: there are as many rows
+-- whatever is told: there are as many rows
 abbrev pub AreTooMany : List Booking → Type 0
-AreTooMany bs = MOST_POSTINGS < length (rows_of_all Made bs)
+AreTooMany bs = MOST_POSTINGS < length (rows_of_all All bs)
 
 -- the ledger of bookings, or B1 where their rows are too many
-abbrev pub MakesLedger : AccountSets → List Booking → Result tables.Ledger (Refusal BookCause)
+abbrev pub MakesLedger : Details → List Booking → Result tables.Ledger (Refusal BookCause)
     → Type 0
-MakesLedger sets bs (Ok ledger) = IsLedgerOf sets bs ledger
-MakesLedger sets bs (Err (Refused TooManyPostings)) = AreTooMany bs
-MakesLedger sets bs (Err OutOfMemory) = ⊤
+MakesLedger details bs (Ok ledger) = IsLedgerOf details bs ledger
+MakesLedger details bs (Err (Refused TooManyPostings)) = AreTooMany bs
+MakesLedger details bs (Err OutOfMemory) = ⊤
 
 -- The ledger of what is booked, and all faults.
-pub record IsBookOf (sets : AccountSets) (l : Loaded) (b : declared.Booked) : Type 0 where
+pub record IsBookOf (details : Details) (l : Loaded) (b : declared.Booked) : Type 0 where
   pub stand : Stand
   pub leads : LeadsTo (method_in_ledger l) (reverse l.directives) stand
-  pub ledger : IsLedgerOf sets (bookings_of stand) b.ledger
+  pub ledger : IsLedgerOf details (bookings_of stand) b.ledger
   pub faults : b.faults ≡ reported (faults_of l stand)
 
 -- what is booked has too many rows
@@ -74,8 +74,8 @@ HasTooMany l =
     (st : Stand) → LeadsTo (method_in_ledger l) (reverse l.directives) st
     → AreTooMany (bookings_of st)
 
--- what is booked of a loaded ledger, with the sets of accounts or without, or B1 exactly where it has too many postings
-abbrev pub Books : AccountSets → Loaded → Result declared.Booked (Refusal BookCause) → Type 0
-Books sets l (Ok b) = IsBookOf sets l b
-Books sets l (Err (Refused TooManyPostings)) = HasTooMany l
-Books sets l (Err OutOfMemory) = ⊤
+-- what is booked of a loaded ledger, with so much told, or B1 exactly where it has too many postings
+abbrev pub Books : Details → Loaded → Result declared.Booked (Refusal BookCause) → Type 0
+Books details l (Ok b) = IsBookOf details l b
+Books details l (Err (Refused TooManyPostings)) = HasTooMany l
+Books details l (Err OutOfMemory) = ⊤

@@ -1,56 +1,56 @@
--- What is booked without the sets of accounts, beside what is booked with them.
-use Rattle.std.specs.Prelude.{◌≡◌, [], map, Ok, Err}
+-- What is booked with few details, beside what is booked with all of them.
+use Rattle.std.specs.Prelude.{◌≡◌, map, Ok, Err}
 use Rattle.bean_replay.specs.declared.cause.BookCause.{BookCause}
 use Rattle.refusals.specs.declared.refusal.Refusal.{Refusal}
 use Rattle.bean_loaded.specs.Loaded.{Loaded}
 use Rattle.posting_entries.specs.declared.entry.EntryParts.{EntryParts}
 use Rattle.posting_table.specs.declared.row.Row.{Row}
 use Rattle.bean_book.specs.Booked.{Books}
-use Rattle.bean_book.specs.declared.account_sets.AccountSets.{AccountSets}
-use Rattle.bean_book.specs.declared.account_sets.AccountSets.TheVariants.{Made, LeftOut}
+use Rattle.bean_book.specs.Details.{accounts_told, told}
 use Rattle.bean_book.specs.declared.booked.Booked.{Booked}
+use Rattle.bean_book.specs.declared.details.Details.{Details}
+use Rattle.bean_book.specs.declared.details.Details.TheVariants.{All}
 
--- no accounts, and all else as it is
+-- what is told of this, and all else as it is
 
-abbrev pub entry_but_accounts : EntryParts → EntryParts
-entry_but_accounts e = record {
+abbrev pub entry_told : Details → EntryParts → EntryParts
+entry_told details e = record {
   payee = e.payee;
   narration = e.narration;
-  tags = e.tags;
-  links = e.links;
-  accounts = [];
-  metadata = e.metadata;
+  tags = told details e.tags;
+  links = told details e.links;
+  accounts = accounts_told details e.accounts;
+  metadata = told details e.metadata;
   date = e.date;
   flag = e.flag;
 }
 
-abbrev pub row_but_accounts : Row → Row
-row_but_accounts r = record {
-  entry = entry_but_accounts r.entry;
+abbrev pub row_told : Details → Row → Row
+row_told details r = record {
+  entry = entry_told details r.entry;
   account = r.account;
   position = r.position;
   weight = r.weight;
   price = r.price;
-  metadata = r.metadata;
+  metadata = told details r.metadata;
   line = r.line;
   flag = r.flag;
 }
 
--- one has the postings of the other but for the accounts of their transactions, and the same
--- decimals and faults
-pub record IsSameButAccounts (bare whole : Booked) : Type 0 where
-  pub rows : bare.ledger.rows ≡ map row_but_accounts whole.ledger.rows
+-- one has what is told of the postings of the other, and the same decimals and faults
+pub record IsToldOf (details : Details) (bare whole : Booked) : Type 0 where
+  pub rows : bare.ledger.rows ≡ map (row_told details) whole.ledger.rows
   pub decimals : bare.ledger.decimals ≡ whole.ledger.decimals
   pub faults : bare.faults ≡ whole.faults
 
--- what is booked without the sets is what is booked with them, but for them
-abbrev pub OnlySetsAreLeftOut : Type 0
-OnlySetsAreLeftOut =
-    (l : Loaded) (bare : Booked) → Books LeftOut l (Ok bare)
-    → (whole : Booked) × Books Made l (Ok whole) × IsSameButAccounts bare whole
+-- what is booked with so much told is what is booked with all told, but for what isn't
+abbrev pub OnlyDetailsAreLeftOut : Type 0
+OnlyDetailsAreLeftOut =
+    (details : Details) (l : Loaded) (bare : Booked) → Books details l (Ok bare)
+    → (whole : Booked) × Books All l (Ok whole) × IsToldOf details bare whole
 
--- and nothing is refused without them that isn't with them, nor the other way round
-abbrev pub SetsRefuseNothing : Type 0
-SetsRefuseNothing =
-    (a b : AccountSets) (l : Loaded) (fault : Refusal BookCause)
+-- and nothing is refused with some details that isn't with any others
+abbrev pub DetailsRefuseNothing : Type 0
+DetailsRefuseNothing =
+    (a b : Details) (l : Loaded) (fault : Refusal BookCause)
     → Books a l (Err fault) → Books b l (Err fault)

@@ -1,3 +1,4 @@
+pub mod Details
 pub mod Metadata
 pub mod Plain
 pub mod Rows

@@ -6,15 +6,17 @@ use Rattle.bean_postings.specs.Details.{IsLineAlone}
 use Rattle.bean_postings.specs.declared.posting.Posting.{Posting}
 use Rattle.bean_replay.specs.declared.written.WrittenParts.{WrittenParts as Written}
 use Rattle.posting_entries.specs.Extras.{payee_of}
+use Rattle.bean_book.specs.Details.{told}
+use Rattle.bean_book.specs.declared.details.Details.{Details}
 
 -- nothing is written beside the units, and they are held without a lot
 pub record IsPlain (w : Posting) (p : Posted) : Type 0 where
   pub alone : IsLineAlone w.details
   pub held : p.lot ≡ None
 
--- no marks and no metadata, and these are the texts, no bytes where there is no payee
-pub record IsPlainEntry (w : Written) (first second : List ℕ) : Type 0 where
+-- no marks and no metadata that are told, and these are the texts, no bytes where there is no payee
+pub record IsPlainEntry (details : Details) (w : Written) (first second : List ℕ) : Type 0 where
   pub payee : payee_of first ≡ w.transaction.payee
   pub narration : second ≡ w.transaction.narration
-  pub marks : w.transaction.marks ≡ []
-  pub metadata : w.metadata ≡ []
+  pub marks : told details w.transaction.marks ≡ []
+  pub metadata : told details w.metadata ≡ []

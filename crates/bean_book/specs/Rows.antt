@@ -31,9 +31,9 @@ use Rattle.query_values.specs.TextSet.{set_of}
 use Rattle.bean_replay.specs.declared.booking.Booking.{Booking}
 use Rattle.bean_replay.specs.declared.booking.Booking.TheVariants as booking
 use Rattle.bean_replay.specs.declared.booking.Kept.{Kept}
+use Rattle.bean_book.specs.Details.{accounts_told, told}
 use Rattle.bean_book.specs.Metadata.{items_of}
-use Rattle.bean_book.specs.declared.account_sets.AccountSets.{AccountSets}
-use Rattle.bean_book.specs.declared.account_sets.AccountSets.TheVariants.{Made, LeftOut}
+use Rattle.bean_book.specs.declared.details.Details.{Details}
 
 -- ---- transactions
 
@@ -45,20 +45,15 @@ abbrev pub link_in : Mark → List (List ℕ)
 link_in (Tag name) = []
 link_in (Link name) = name ∷ []
 
--- the set of these accounts where sets are made, and the empty set where they are left out
-abbrev pub account_set : AccountSets → List (List ℕ) → List (List ℕ)
-account_set Made accounts = set_of accounts
-account_set LeftOut accounts = []
-
--- what the postings of a transaction have in common
-abbrev pub entry_of : AccountSets → Kept → EntryParts
-entry_of sets k = record {
+-- what the postings of a transaction have in common, as far as it is told
+abbrev pub entry_of : Details → Kept → EntryParts
+entry_of details k = record {
   payee = k.written.transaction.payee;
   narration = k.written.transaction.narration;
-  tags = set_of (flat_map tag_in k.written.transaction.marks);
-  links = set_of (flat_map link_in k.written.transaction.marks);
-  accounts = account_set sets (map (λ p. p.account) k.postings);
-  metadata = items_of k.written.metadata;
+  tags = set_of (flat_map tag_in (told details k.written.transaction.marks));
+  links = set_of (flat_map link_in (told details k.written.transaction.marks));
+  accounts = set_of (accounts_told details (map (λ p. p.account) k.postings));
+  metadata = items_of (told details k.written.metadata);
   date = k.written.day;
   flag = Written k.written.transaction.flag;
 }
@@ -72,9 +67,10 @@ abbrev pub line_in : ℕ → Option Posting → ℕ
 line_in line None = line
 line_in line (Some w) = w.details.line
 
-abbrev pub items_in : Option Posting → List MetaItem
-items_in None = []
-items_in (Some w) = items_of w.details.metadata
+-- its metadata, where it is told
+abbrev pub items_in : Details → Option Posting → List MetaItem
+items_in details None = []
+items_in details (Some w) = items_of (told details w.details.metadata)
 
 -- what a unit is priced at
 abbrev pub unit_price : prices.Price → Option Amount
@@ -93,37 +89,40 @@ position_of p = record {
 abbrev pub weight_by : Whole → Weight
 weight_by w = record { count = weight_of w; currency = currency_of w.units w.worth }
 
-abbrev pub row_by : EntryParts → ℕ → Option Posting → Posted → Row
-row_by e line written p = record {
+-- the row of a booked posting that has this metadata
+abbrev pub row_by : EntryParts → ℕ → List MetaItem → Option Posting → Posted → Row
+row_by e line items written p = record {
   entry = e;
   account = p.account;
   position = position_of p;
   weight = weight_by (whole_at written p);
   price = price_in written;
-  metadata = items_in written;
+  metadata = items;
   line = line_in line written;
   flag = flag_in written;
 }
 
-abbrev pub row_of : EntryParts → ℕ → List Posting → Posted → Row
-row_of e line ps p = row_by e line (slice_get ps p.written) p
+abbrev pub row_of : Details → EntryParts → ℕ → List Posting → Posted → Row
+row_of details e line ps p =
+    row_by e line (items_in details (slice_get ps p.written)) (slice_get ps p.written) p
 
 -- the rows of a transaction whose postings have this in common
-abbrev pub rows_with : EntryParts → Kept → List Row
-rows_with e k = map (row_of e k.written.place.line k.written.transaction.postings) k.postings
+abbrev pub rows_with : Details → EntryParts → Kept → List Row
+rows_with details e k =
+    map (row_of details e k.written.place.line k.written.transaction.postings) k.postings
 
-abbrev pub rows_of_transaction : AccountSets → Kept → List Row
-rows_of_transaction sets k = rows_with (entry_of sets k) k
+abbrev pub rows_of_transaction : Details → Kept → List Row
+rows_of_transaction details k = rows_with details (entry_of details k) k
 
 -- ---- paddings
 
-abbrev pub padding_entry : AccountSets → NotedPad → EntryParts
-padding_entry sets n = record {
+abbrev pub padding_entry : Details → NotedPad → EntryParts
+padding_entry details n = record {
   payee = None;
   narration = codes "Padding";
   tags = [];
   links = [];
-  accounts = account_set sets (n.pad.account ∷ n.pad.source ∷ []);
+  accounts = set_of (accounts_told details (n.pad.account ∷ n.pad.source ∷ []));
   metadata = [];
   date = n.day;
   flag = Padding;
@@ -152,14 +151,14 @@ rows_by e n currency other = []
 abbrev pub rows_of_note : EntryParts → NotedPad → Note → List Row
 rows_of_note e n note = rows_by e n note.currency note.outcome
 
-abbrev pub rows_of_pad : AccountSets → NotedPad → List Row
-rows_of_pad sets n = flat_map (rows_of_note (padding_entry sets n) n) n.notes
+abbrev pub rows_of_pad : Details → NotedPad → List Row
+rows_of_pad details n = flat_map (rows_of_note (padding_entry details n) n) n.notes
 
 -- ---- both
 
-abbrev pub rows_of : AccountSets → Booking → List Row
-rows_of sets (booking.Transaction k) = rows_of_transaction sets k
-rows_of sets (booking.Pad n) = rows_of_pad sets n
+abbrev pub rows_of : Details → Booking → List Row
+rows_of details (booking.Transaction k) = rows_of_transaction details k
+rows_of details (booking.Pad n) = rows_of_pad details n
 
 -- ---- written numbers
 

@@ -2,16 +2,16 @@
 ghost use Rattle.bean_book.specs.Booked.{Books};
 ghost use Rattle.bean_book.specs.Found.{FindsFaults};
 ghost use Rattle.bean_book.specs.Taken.{as_rows};
-ghost use Rattle.bean_book.specs.declared.account_sets.AccountSets.TheVariants.{Made, LeftOut};
 ghost use Rattle.bean_loaded.specs.Loaded as loading;
 ghost use Rattle.bean_replay.specs.Booked.{IsBooked};
 ghost use Rattle.bean_replay.specs.Small.{IsSmallNoted};
 ghost use Rattle.std.specs.List.{AllByRecursion};
 
-use crate::account_sets::AccountSets;
 use crate::counts::{RowCount, count_pads};
+use crate::details::Details;
 use crate::faults::report;
-use crate::ledger::{LedgerRows, RowsWithSets, RowsWithoutSets, with_pads};
+use crate::ledger::{LedgerRows, ToldRows, with_pads};
+use crate::level::{AccountsAreUntold, AllIsTold, FewAreTold, Level};
 use bean_base::{Fault, List};
 use bean_loaded::Loaded;
 use bean_replay::{BookCause, book_directives};
@@ -28,18 +28,17 @@ pub struct Booked<'a> {
     pub faults: List<Fault>,
 }
 
-/// The book, once all directives are taken and their rows stand with the sets of accounts or
-/// without.
+/// The book, once all directives are taken and their rows stand with so much told.
 fn finish<'a>(
-    sets: AccountSets,
+    details: Details,
     booked: bean_replay::Booked<'a, LedgerRows<'a>>,
 ) -> Result<Booked<'a>, Refusal<BookCause>>
-    requires booked { (l : loading.Loaded) × IsBooked (as_rows sets) l booked }
+    requires booked { (l : loading.Loaded) × IsBooked (as_rows details) l booked }
     requires small { AllByRecursion IsSmallNoted booked.pads }
-    ensures { (l : loading.Loaded) → IsBooked (as_rows sets) l booked.entry
-        → Books sets l result }
+    ensures { (l : loading.Loaded) → IsBooked (as_rows details) l booked.entry
+        → Books details l result }
 {
-    let ledger = match with_pads(sets, booked.bookings, booked.pads.into_vec()) {
+    let ledger = match with_pads(details, booked.bookings, booked.pads.into_vec()) {
         Ok(ledger) => ledger,
         Err(fault) => return Err(fault),
     };
@@ -51,54 +50,41 @@ fn finish<'a>(
     })
 }
 
-/// A loaded ledger as it is booked with the sets of accounts.
-fn book_with_sets<'a>(alloc: Global, loaded: Loaded<'a>) -> Result<Booked<'a>, Refusal<BookCause>>
-    ensures { Books Made loaded.entry result }
-{
-    let rows = LedgerRows::new(alloc)?;
-    let booked = match book_directives(alloc, loaded, RowsWithSets { rows }) {
-        Ok(booked) => booked,
-        Err(fault) => return Err(fault),
-    };
-    let booked = bean_replay::Booked {
-        bookings: booked.bookings.rows,
-        pads: booked.pads,
-        faults: booked.faults,
-    };
-    finish(AccountSets::Made, booked)
-}
-
-/// The same without them.
-fn book_without_sets<'a>(
+/// A loaded ledger as it is booked, with so much told as the type of the level tells.
+fn book_at<'a, L: Level + 'a>(
     alloc: Global,
     loaded: Loaded<'a>,
+    level: L,
 ) -> Result<Booked<'a>, Refusal<BookCause>>
-    ensures { Books LeftOut loaded.entry result }
+    ensures { Books L.level loaded.entry result }
 {
+    let details = level.details();
     let rows = LedgerRows::new(alloc)?;
-    let booked = match book_directives(alloc, loaded, RowsWithoutSets { rows }) {
+    let booked = match book_directives(alloc, loaded, ToldRows { rows, level }) {
         Ok(booked) => booked,
         Err(fault) => return Err(fault),
     };
+    let told = booked.bookings;
     let booked = bean_replay::Booked {
-        bookings: booked.bookings.rows,
+        bookings: told.rows,
         pads: booked.pads,
         faults: booked.faults,
     };
-    finish(AccountSets::LeftOut, booked)
+    finish(details, booked)
 }
 
-/// A loaded ledger as it is booked, with the sets of the accounts of transactions or without.
+/// A loaded ledger as it is booked, with so much told of its transactions and postings.
 pub fn book<'a>(
     alloc: Global,
     loaded: Loaded<'a>,
-    sets: AccountSets,
+    details: Details,
 ) -> Result<Booked<'a>, Refusal<BookCause>>
-    ensures { Books sets loaded.entry result }
+    ensures { Books details loaded.entry result }
 {
-    match sets {
-        AccountSets::Made => book_with_sets(alloc, loaded),
-        AccountSets::LeftOut => book_without_sets(alloc, loaded),
+    match details {
+        Details::All => book_at(alloc, loaded, AllIsTold),
+        Details::ButAccounts => book_at(alloc, loaded, AccountsAreUntold),
+        Details::Few => book_at(alloc, loaded, FewAreTold),
     }
 }
 

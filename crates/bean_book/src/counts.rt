@@ -5,7 +5,7 @@ ghost use Rattle.limits.specs.declared.counts.TheConstants.{MOST_POSTINGS};
 ghost use Rattle.bean_pad.specs.declared.note.NotedPad as pads;
 ghost use Rattle.posting_entries.specs.declared.entry.EntryParts as entries;
 ghost use Rattle.bean_book.specs.Rows as spec;
-ghost use Rattle.bean_book.specs.declared.account_sets.AccountSets.TheVariants.{Made};
+ghost use Rattle.bean_book.specs.declared.details.Details.TheVariants.{All};
 
 use bean_pad::{NotedPad, Outcome};
 use bean_replay::{BookCause, Bookings, Kept};
@@ -62,10 +62,10 @@ fn rows_in(outcome: Outcome) -> usize
 /// The count with the rows of a pad.
 fn count_pad(count: usize, noted: &NotedPad<'_>) -> Result<usize, Refusal<BookCause>>
     requires { count ≤ MOST_POSTINGS }
-    ensures sum { IfOk result (λ n. n ≡ count + length (spec.rows_of_pad Made noted.now)) }
+    ensures sum { IfOk result (λ n. n ≡ count + length (spec.rows_of_pad All noted.now)) }
     ensures few { IfOk result (λ n. n ≤ MOST_POSTINGS) }
     ensures full { result ≡ Err (Refusal.Refused BookCause.TooManyPostings)
-        → MOST_POSTINGS < count + length (spec.rows_of_pad Made noted.now) }
+        → MOST_POSTINGS < count + length (spec.rows_of_pad All noted.now) }
 {
     let mut sum = count;
     for note in noted.notes.as_slice() {
@@ -80,10 +80,10 @@ fn count_pad(count: usize, noted: &NotedPad<'_>) -> Result<usize, Refusal<BookCa
 /// The count with the rows of all pads, unless they are too many.
 pub(crate) fn count_pads(count: usize, pads: &[NotedPad<'_>]) -> Result<usize, Refusal<BookCause>>
     requires { count ≤ MOST_POSTINGS }
-    ensures sum { IfOk result (λ n. n ≡ count + length (flat_map (spec.rows_of_pad Made) pads.now)) }
+    ensures sum { IfOk result (λ n. n ≡ count + length (flat_map (spec.rows_of_pad All) pads.now)) }
     ensures few { IfOk result (λ n. n ≤ MOST_POSTINGS) }
     ensures full { result ≡ Err (Refusal.Refused BookCause.TooManyPostings)
-        → MOST_POSTINGS < count + length (flat_map (spec.rows_of_pad Made) pads.now) }
+        → MOST_POSTINGS < count + length (flat_map (spec.rows_of_pad All) pads.now) }
 {
     let mut sum = count;
     for noted in pads {

@@ -3,10 +3,11 @@ ghost use Rattle.std.specs.Prelude.{◌≡◌, ◌++◌, ◌∷◌, [], IfOk, If
 ghost use Rattle.std.specs.List.{flat_map};
 ghost use Rattle.query_values.specs.TextSet.{set_of};
 ghost use Rattle.posting_entries.specs.Extras.{payee_of};
+ghost use Rattle.bean_book.specs.Details.{accounts_told};
 ghost use Rattle.bean_book.specs.Plain.{IsPlainEntry};
 ghost use Rattle.bean_book.specs.Rows as spec;
 
-use crate::account_sets::AccountSets;
+use crate::details::Details;
 use crate::metadata::metadata_of;
 use bean_base::{Slice, Text};
 use bean_directives::{Pad, Payee};
@@ -77,17 +78,18 @@ fn links_of<'a>(
     links_among(alloc, marks)
 }
 
-/// The accounts of booked postings, where sets are made.
+/// The accounts of booked postings, where they are told.
 fn accounts_of<'a>(
     alloc: Global,
-    sets: AccountSets,
+    details: Details,
     posted: &[Posted<'a>],
 ) -> Result<TextSet<'a>, AllocError>
-    ensures { IfOk result (λ set. set ≡ spec.account_set sets (map (λ p. p.account) posted.now)) }
+    ensures { IfOk result (λ set. set
+        ≡ set_of (accounts_told details (map (λ p. p.account) posted.now))) }
 {
-    match sets {
-        AccountSets::Made => set_of_accounts(alloc, posted),
-        AccountSets::LeftOut => Ok(TextSet::new(Vec::new(alloc))),
+    match details {
+        Details::All => set_of_accounts(alloc, posted),
+        Details::ButAccounts | Details::Few => Ok(TextSet::new(Vec::new(alloc))),
     }
 }
 
@@ -152,13 +154,15 @@ struct Texts<'a> {
     narration: Slice<'a>,
 }
 
-/// The texts of a transaction that has no marks and no metadata, where they are kept as they are
-/// written.
-fn plain_texts<'a>(written: &Written<'a>) -> Option<Texts<'a>>
-    ensures { IfSome result (λ texts. IsPlainEntry written.now texts.payee texts.narration) }
+/// The texts of a transaction of which no marks and no metadata are told, where they are kept as they
+/// are written.
+fn plain_texts<'a>(details: Details, written: &Written<'a>) -> Option<Texts<'a>>
+    ensures { IfSome result (λ texts.
+        IsPlainEntry details written.now texts.payee texts.narration) }
 {
     let transaction = written.transaction();
-    if !transaction.marks.as_slice().is_empty() || !written.metadata().is_empty() {
+    let marks = details.told(transaction.marks.as_slice());
+    if !marks.is_empty() || !details.told(written.metadata()).is_empty() {
         return None;
     }
     Some(Texts {
@@ -167,23 +171,23 @@ fn plain_texts<'a>(written: &Written<'a>) -> Option<Texts<'a>>
     })
 }
 
-/// What the booked postings of a transaction have in common.
+/// What the booked postings of a transaction have in common, as far as it is told.
 pub(crate) fn entry_of<'a>(
     alloc: Global,
     none: &NoExtras<'a>,
-    sets: AccountSets,
+    details: Details,
     kept: &Kept<'a>,
 ) -> Result<Shared<Entry<'a>>, AllocError>
-    ensures { IfOk result (λ entry. entry ≡ spec.entry_of sets kept.now) }
+    ensures { IfOk result (λ entry. entry ≡ spec.entry_of details kept.now) }
 {
     let written = &kept.written;
-    let Some(texts) = plain_texts(written) else {
-        return full_entry(alloc, none, sets, kept);
+    let Some(texts) = plain_texts(details, written) else {
+        return full_entry(alloc, none, details, kept);
     };
     let parts = PlainParts {
         payee: texts.payee,
         narration: texts.narration,
-        accounts: accounts_of(alloc, sets, kept.postings.as_slice())?,
+        accounts: accounts_of(alloc, details, kept.postings.as_slice())?,
         date: written.day(),
         flag: EntryFlag::Written(written.transaction().flag),
     };
@@ -196,45 +200,45 @@ pub(crate) fn entry_of<'a>(
 fn full_entry<'a>(
     alloc: Global,
     none: &NoExtras<'a>,
-    sets: AccountSets,
+    details: Details,
     kept: &Kept<'a>,
 ) -> Result<Shared<Entry<'a>>, AllocError>
-    ensures { IfOk result (λ entry. entry ≡ spec.entry_of sets kept.now) }
+    ensures { IfOk result (λ entry. entry ≡ spec.entry_of details kept.now) }
 {
     let written = &kept.written;
     let transaction = written.transaction();
-    let marks = transaction.marks.as_slice();
+    let marks = details.told(transaction.marks.as_slice());
     let parts = EntryParts {
         payee: payee_of(alloc, &transaction.payee)?,
         narration: PlainText::of(alloc, &transaction.narration)?,
         tags: tags_of(alloc, none, marks)?,
         links: links_of(alloc, none, marks)?,
-        accounts: accounts_of(alloc, sets, kept.postings.as_slice())?,
-        metadata: metadata_of(alloc, written.metadata())?,
+        accounts: accounts_of(alloc, details, kept.postings.as_slice())?,
+        metadata: metadata_of(alloc, details.told(written.metadata()))?,
         date: written.day(),
         flag: EntryFlag::Written(transaction.flag),
     };
     Shared::new(alloc, Entry::new(alloc, none, parts)?)
 }
 
-/// The accounts of the two postings that a pad inserts, where sets are made.
+/// The accounts of the two postings that a pad inserts, where they are told.
 fn padding_accounts<'a>(
     alloc: Global,
-    sets: AccountSets,
+    details: Details,
     pad: &Pad<'a>,
 ) -> Result<TextSet<'a>, AllocError>
     ensures { IfOk result (λ set. set
-        ≡ spec.account_set sets (pad.now.account ∷ pad.now.source ∷ [])) }
+        ≡ set_of (accounts_told details (pad.now.account ∷ pad.now.source ∷ []))) }
 {
-    match sets {
-        AccountSets::Made => {
+    match details {
+        Details::All => {
             let names = [
                 Slice::new(pad.account.text()),
                 Slice::new(pad.source.text()),
             ];
             Ok(TextSet::new(Vec::from_array(alloc, names)?))
         }
-        AccountSets::LeftOut => Ok(TextSet::new(Vec::new(alloc))),
+        Details::ButAccounts | Details::Few => Ok(TextSet::new(Vec::new(alloc))),
     }
 }
 
@@ -242,17 +246,17 @@ fn padding_accounts<'a>(
 pub(crate) fn padding_entry<'a>(
     alloc: Global,
     none: &NoExtras<'a>,
-    sets: AccountSets,
+    details: Details,
     noted: &NotedPad<'a>,
 ) -> Result<Shared<Entry<'a>>, AllocError>
-    ensures { IfOk result (λ entry. entry ≡ spec.padding_entry sets noted.now) }
+    ensures { IfOk result (λ entry. entry ≡ spec.padding_entry details noted.now) }
 {
     let parts = EntryParts {
         payee: None,
         narration: PlainText::lent("Padding"),
         tags: none.no_texts()?,
         links: none.no_texts()?,
-        accounts: padding_accounts(alloc, sets, &noted.pad)?,
+        accounts: padding_accounts(alloc, details, &noted.pad)?,
         metadata: Metadata::empty(),
         date: noted.day,
         flag: EntryFlag::Padding,

@@ -13,11 +13,12 @@ ghost use Rattle.bean_replay.specs.Stand.{postings_of};
 ghost use Rattle.bean_replay.specs.declared.booking.Booking.TheVariants as booking;
 ghost use Rattle.bean_replay.specs.declared.booking.Draft as drafts;
 ghost use Rattle.bean_replay.specs.declared.booking.Draft.TheVariants as draft;
-ghost use Rattle.bean_book.specs.declared.account_sets.AccountSets as choices;
+ghost use Rattle.bean_book.specs.declared.details.Details as levels;
 
-use crate::account_sets::AccountSets;
 use crate::counts::count_pads;
 use crate::decimals::note_written;
+use crate::details::Details;
+use crate::level::Level;
 use crate::paddings::push_pad;
 use crate::rows::push_transaction;
 use bean_pad::NotedPad;
@@ -44,7 +45,7 @@ pub(crate) struct LedgerRows<'a> {
 impl<'a> LedgerRows<'a> {
     /// Nothing so far.
     pub(crate) fn new(alloc: Global) -> Result<LedgerRows<'a>, AllocError>
-        ensures { IfOk result (λ rows. (sets : choices.AccountSets) → IsLedgerSoFar sets [] rows) }
+        ensures { IfOk result (λ rows. (details : levels.Details) → IsLedgerSoFar details [] rows) }
     {
         Ok(LedgerRows {
             alloc,
@@ -56,17 +57,17 @@ impl<'a> LedgerRows<'a> {
     }
 
     /// Takes a transaction that is kept.
-    fn keep(&mut self, sets: AccountSets, kept: &Kept<'a>) -> Result<(), AllocError>
+    fn keep(&mut self, details: Details, kept: &Kept<'a>) -> Result<(), AllocError>
         requires small { IsSmallKept kept.now }
-        requires room { (ds : List drafts.Draft) × IsLedgerSoFar sets ds self.old
+        requires room { (ds : List drafts.Draft) × IsLedgerSoFar details ds self.old
             × (length (postings_of ds) + length kept.now.postings ≤ MOST_POSTINGS) }
-        ensures { (ds : List drafts.Draft) → IsLedgerSoFar sets ds self.old
-            → OnOk result (IsLedgerSoFar sets (ds ++ draft.Transaction kept.now ∷ []) self.new) }
+        ensures { (ds : List drafts.Draft) → IsLedgerSoFar details ds self.old
+            → OnOk result (IsLedgerSoFar details (ds ++ draft.Transaction kept.now ∷ []) self.new) }
     {
         push_kept(
             self.alloc,
             &self.none,
-            sets,
+            details,
             &mut self.ledger,
             &mut self.near,
             kept,
@@ -75,9 +76,9 @@ impl<'a> LedgerRows<'a> {
 
     /// Takes the place of a pad.
     fn pad(&mut self) -> Result<(), AllocError>
-        ensures { (sets : choices.AccountSets) (ds : List drafts.Draft)
-            → IsLedgerSoFar sets ds self.old
-            → OnOk result (IsLedgerSoFar sets (ds ++ draft.Pad ∷ []) self.new) }
+        ensures { (details : levels.Details) (ds : List drafts.Draft)
+            → IsLedgerSoFar details ds self.old
+            → OnOk result (IsLedgerSoFar details (ds ++ draft.Pad ∷ []) self.new) }
     {
         let place = self.ledger.len();
         self.places.push(place)?;
@@ -89,56 +90,34 @@ impl<'a> LedgerRows<'a> {
 fn push_kept<'a>(
     alloc: Global,
     none: &NoExtras<'a>,
-    sets: AccountSets,
+    details: Details,
     ledger: &mut Ledger<'a>,
     near: &mut usize,
     kept: &Kept<'a>,
 ) -> Result<(), AllocError>
     requires tame { IsTameKept kept.now }
     requires room { length ledger.old.rows + length kept.now.postings ≤ MOST_POSTINGS }
-    ensures { OnOk result (Adds sets (booking.Transaction kept.now) ledger.old ledger.new) }
+    ensures { OnOk result (Adds details (booking.Transaction kept.now) ledger.old ledger.new) }
 {
-    push_transaction(alloc, none, sets, ledger, kept)?;
+    push_transaction(alloc, none, details, ledger, kept)?;
     note_written(ledger, near, kept.written.transaction().postings.as_slice())?;
     Ok(())
 }
 
-/// Rows that are taken with the sets of accounts: the type tells it, so that it is known of what has
-/// taken all directives.
+/// Rows that are taken with so much told as the type of the level tells.
 #[derive(Drop)]
-pub(crate) struct RowsWithSets<'a> {
+pub(crate) struct ToldRows<'a, L> {
     pub rows: LedgerRows<'a>,
+    pub level: L,
 }
 
-impl<'a> Bookings<'a> for RowsWithSets<'a> {
+impl<'a, L: Level> Bookings<'a> for ToldRows<'a, L> {
     ghost use Rattle.bean_book.specs.Taken.{IsLedgerSoFar};
-    ghost use Rattle.bean_book.specs.declared.account_sets.AccountSets.TheVariants.{Made};
 
-    ghost has_taken = { λ l ds. IsLedgerSoFar Made ds l.rows };
+    ghost has_taken = { λ l ds. IsLedgerSoFar L.level ds l.rows };
 
     fn keep(&mut self, kept: &Kept<'a>) -> Result<(), AllocError> {
-        self.rows.keep(AccountSets::Made, kept)
-    }
-
-    fn pad(&mut self) -> Result<(), AllocError> {
-        self.rows.pad()
-    }
-}
-
-/// Rows that are taken without the sets of accounts.
-#[derive(Drop)]
-pub(crate) struct RowsWithoutSets<'a> {
-    pub rows: LedgerRows<'a>,
-}
-
-impl<'a> Bookings<'a> for RowsWithoutSets<'a> {
-    ghost use Rattle.bean_book.specs.Taken.{IsLedgerSoFar};
-    ghost use Rattle.bean_book.specs.declared.account_sets.AccountSets.TheVariants.{LeftOut};
-
-    ghost has_taken = { λ l ds. IsLedgerSoFar LeftOut ds l.rows };
-
-    fn keep(&mut self, kept: &Kept<'a>) -> Result<(), AllocError> {
-        self.rows.keep(AccountSets::LeftOut, kept)
+        self.rows.keep(self.level.details(), kept)
     }
 
     fn pad(&mut self) -> Result<(), AllocError> {
@@ -150,38 +129,38 @@ impl<'a> Bookings<'a> for RowsWithoutSets<'a> {
 fn put_pad<'a>(
     alloc: Global,
     none: &NoExtras<'a>,
-    sets: AccountSets,
+    details: Details,
     ledger: &mut Ledger<'a>,
     rest: &mut TakenRows<'a>,
     count: usize,
     noted: &NotedPad<'a>,
 ) -> Result<(), AllocError>
     requires small { IsSmallNoted noted.now }
-    requires room { length ledger.old.rows + length rest.old + length (rows_of_pad sets noted.now)
+    requires room { length ledger.old.rows + length rest.old + length (rows_of_pad details noted.now)
         ≤ MOST_POSTINGS }
     ensures rows { OnOk result (ledger.new.rows
-        ≡ ledger.old.rows ++ (take count rest.old ++ rows_of_pad sets noted.now)) }
+        ≡ ledger.old.rows ++ (take count rest.old ++ rows_of_pad details noted.now)) }
     ensures decimals { OnOk result (ledger.new.decimals ≡ ledger.old.decimals) }
     ensures rest { OnOk result (rest.new ≡ drop count rest.old) }
 {
     ledger.put_back(rest, count)?;
-    push_pad(alloc, none, sets, ledger, noted)
+    push_pad(alloc, none, details, ledger, noted)
 }
 
 /// Puts the rows in that pads insert, each at its place.
 fn put_pads<'a>(
     alloc: Global,
     none: &NoExtras<'a>,
-    sets: AccountSets,
+    details: Details,
     ledger: &mut Ledger<'a>,
     places: Vec<usize>,
     pads: Vec<NotedPad<'a>>,
 ) -> Result<(), AllocError>
     requires small { AllByRecursion IsSmallNoted pads.items }
-    requires room { length (with_rows sets 0 ledger.old.rows places.items pads.items)
+    requires room { length (with_rows details 0 ledger.old.rows places.items pads.items)
         ≤ MOST_POSTINGS }
     ensures rows { OnOk result (ledger.new.rows
-        ≡ with_rows sets 0 ledger.old.rows places.items pads.entry.items) }
+        ≡ with_rows details 0 ledger.old.rows places.items pads.entry.items) }
     ensures decimals { OnOk result (ledger.new.decimals ≡ ledger.old.decimals) }
 {
     let mut rest = ledger.take_rows()?;
@@ -190,7 +169,7 @@ fn put_pads<'a>(
     for noted in pads {
         if let Some(place) = left.next() {
             let count = place.saturating_sub(passed);
-            put_pad(alloc, none, sets, ledger, &mut rest, count, &noted)?;
+            put_pad(alloc, none, details, ledger, &mut rest, count, &noted)?;
             passed = place;
         }
     }
@@ -199,16 +178,16 @@ fn put_pads<'a>(
 
 /// The ledger, now that it is known what comes of the pads.
 pub(crate) fn with_pads<'a>(
-    sets: AccountSets,
+    details: Details,
     rows: LedgerRows<'a>,
     pads: Vec<NotedPad<'a>>,
 ) -> Result<Ledger<'a>, Refusal<BookCause>>
     requires small { AllByRecursion IsSmallNoted pads.items }
-    requires booked { (ds : List drafts.Draft) × IsLedgerSoFar sets ds rows
+    requires booked { (ds : List drafts.Draft) × IsLedgerSoFar details ds rows
         × (booked.places_in ds ≡ length pads.items) }
-    ensures { (ds : List drafts.Draft) → IsLedgerSoFar sets ds rows.entry
+    ensures { (ds : List drafts.Draft) → IsLedgerSoFar details ds rows.entry
         → booked.places_in ds ≡ length pads.entry.items
-        → MakesLedger sets (booked.with_pads ds pads.entry.items) result }
+        → MakesLedger details (booked.with_pads ds pads.entry.items) result }
 {
     let LedgerRows {
         alloc,
@@ -226,6 +205,6 @@ pub(crate) fn with_pads<'a>(
         return Ok(ledger);
     }
     let mut ledger = ledger;
-    put_pads(alloc, &none, sets, &mut ledger, places, pads)?;
+    put_pads(alloc, &none, details, &mut ledger, places, pads)?;
     Ok(ledger)
 }

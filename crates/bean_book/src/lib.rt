@@ -3,7 +3,7 @@
 //!
 //! ```text
 //! let loaded = load(alloc, &texts)?;
-//! let booked = book(alloc, loaded, AccountSets::Made)?;
+//! let booked = book(alloc, loaded, Details::All)?;
 //! booked.ledger.len()                    // how many postings there are
 //! booked.faults.as_slice()               // by file, line and number, equal ones once
 //!
@@ -13,8 +13,9 @@
 //! What the directives come to is told by [`bean_replay`]. In their order, each transaction that is
 //! kept gives a row for each posting that it is booked as, and each pad two for each balance that
 //! uses it up. A row has what its transaction says too: payee, narration, tags, links, accounts and
-//! metadata. The caller chooses whether the set of accounts is made or left out ([`AccountSets`]):
-//! what is booked without it is what is booked with it but for that set.
+//! metadata. The caller chooses how much of this is told ([`Details`]): all, or all but the set of
+//! accounts, or neither that set nor tags, links and metadata. What is booked with few details is what
+//! is booked with all of them but for those that aren't told.
 //!
 //! # Display decimals
 //!
@@ -34,19 +35,20 @@
 //! those that there would be.
 #![tactic(auto)]
 
-mod account_sets;
 mod booked;
 mod counts;
 mod decimals;
+mod details;
 mod entries;
 mod faults;
 mod laws;
 mod ledger;
+mod level;
 mod metadata;
 mod paddings;
 mod rows;
 
-pub use account_sets::AccountSets;
 pub use bean_replay::BookCause;
 pub use booked::{Booked, book, find_faults};
-pub use laws::{one_book, only_sets_are_left_out, sets_refuse_nothing};
+pub use details::Details;
+pub use laws::{details_refuse_nothing, one_book, only_details_are_left_out};

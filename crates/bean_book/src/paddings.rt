@@ -4,9 +4,9 @@ ghost use Rattle.std.specs.Int.RustNames.{unsigned_abs};
 ghost use Rattle.bean_replay.specs.Small.{IsSmallNote, IsSmallNoted};
 ghost use Rattle.limits.specs.declared.counts.TheConstants.{MOST_POSTINGS};
 ghost use Rattle.bean_book.specs.Rows as spec;
-ghost use Rattle.bean_book.specs.declared.account_sets.AccountSets as choices;
+ghost use Rattle.bean_book.specs.declared.details.Details as levels;
 
-use crate::account_sets::AccountSets;
+use crate::details::Details;
 use crate::entries::padding_entry;
 use bean_base::{Account, Currency};
 use bean_lots::{Key, Position};
@@ -55,7 +55,7 @@ fn push_note<'a>(
     noted: &NotedPad<'a>,
     note: &Note<'a>,
 ) -> Result<(), AllocError>
-    requires entry { (sets : choices.AccountSets) × (entry.now ≡ spec.padding_entry sets noted.now) }
+    requires entry { (details : levels.Details) × (entry.now ≡ spec.padding_entry details noted.now) }
     requires pad { IsSmallNoted noted.now }
     requires note { IsSmallNote note.now }
     requires room { length ledger.old.rows + length (spec.rows_of_note entry.now noted.now note.now)
@@ -78,18 +78,18 @@ fn push_note<'a>(
 pub(crate) fn push_pad<'a>(
     alloc: Global,
     none: &NoExtras<'a>,
-    sets: AccountSets,
+    details: Details,
     ledger: &mut Ledger<'a>,
     noted: &NotedPad<'a>,
 ) -> Result<(), AllocError>
     requires small { IsSmallNoted noted.now }
-    requires room { length ledger.old.rows + length (spec.rows_of_pad sets noted.now)
+    requires room { length ledger.old.rows + length (spec.rows_of_pad details noted.now)
         ≤ MOST_POSTINGS }
     ensures rows { OnOk result (ledger.new.rows
-        ≡ ledger.old.rows ++ spec.rows_of_pad sets noted.now) }
+        ≡ ledger.old.rows ++ spec.rows_of_pad details noted.now) }
     ensures decimals { OnOk result (ledger.new.decimals ≡ ledger.old.decimals) }
 {
-    let entry = padding_entry(alloc, none, sets, noted)?;
+    let entry = padding_entry(alloc, none, details, noted)?;
     for note in noted.notes.as_slice() {
         push_note(ledger, &entry, noted, note)?;
     }

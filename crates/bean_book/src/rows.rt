@@ -10,9 +10,9 @@ ghost use Rattle.query_rows.specs.ColumnShape.{widest};
 ghost use Rattle.bean_book.specs.Plain.{IsPlain};
 ghost use Rattle.bean_book.specs.Rows as spec;
 ghost use Rattle.bean_book.specs.Tame.{IsTameKept};
-ghost use Rattle.bean_book.specs.declared.account_sets.AccountSets as choices;
+ghost use Rattle.bean_book.specs.declared.details.Details as levels;
 
-use crate::account_sets::AccountSets;
+use crate::details::Details;
 use crate::entries::entry_of;
 use crate::metadata::metadata_of;
 use bean_base::Amount;
@@ -25,7 +25,7 @@ use posting_entries::{Entry, Metadata, NoExtras, Shared};
 use posting_table::{Ledger, PlainRow, Row, Weight};
 use std::alloc::{AllocError, Global};
 
-/// The metadata of a written posting, for all that it is booked as.
+/// The metadata of a written posting, as far as it is told, for all that the posting is booked as.
 #[derive(Drop)]
 struct Noted<'a> {
     /// The number of the posting.
@@ -33,18 +33,20 @@ struct Noted<'a> {
     metadata: Metadata<'a>,
 }
 
-/// The metadata of the written posting of that number: none where there is no such posting.
+/// The metadata of the written posting of that number, as far as it is told: none where there is no
+/// such posting.
 fn noted_at<'a>(
     alloc: Global,
+    details: Details,
     postings: &[WrittenPosting<'a>],
     written: usize,
 ) -> Result<Noted<'a>, AllocError>
     ensures number { IfOk result (λ noted. noted.written ≡ written) }
     ensures items { IfOk result (λ noted. noted.metadata
-        ≡ spec.items_in (slice_get postings.now written)) }
+        ≡ spec.items_in details (slice_get postings.now written)) }
 {
     let metadata = match postings.get(written) {
-        Some(posting) => metadata_of(alloc, posting.metadata())?,
+        Some(posting) => metadata_of(alloc, details.told(posting.metadata()))?,
         None => Metadata::empty(),
     };
     Ok(Noted { written, metadata })
@@ -52,7 +54,8 @@ fn noted_at<'a>(
 
 /// Before any metadata is looked at: that of the posting behind the last, which isn't there.
 fn noted_nowhere<'a>(postings: &[WrittenPosting<'a>]) -> Noted<'a>
-    ensures { result.metadata ≡ spec.items_in (slice_get postings.now result.written) }
+    ensures { (details : levels.Details) → result.metadata
+        ≡ spec.items_in details (slice_get postings.now result.written) }
 {
     Noted {
         written: postings.len(),
@@ -63,19 +66,21 @@ fn noted_nowhere<'a>(postings: &[WrittenPosting<'a>]) -> Noted<'a>
 /// Goes on to the metadata of the written posting of that number, which most often is at hand.
 fn go_on<'a>(
     alloc: Global,
+    details: Details,
     postings: &[WrittenPosting<'a>],
     noted: &mut Noted<'a>,
     written: usize,
 ) -> Result<(), AllocError>
-    requires { noted.old.metadata ≡ spec.items_in (slice_get postings.now noted.old.written) }
+    requires { noted.old.metadata
+        ≡ spec.items_in details (slice_get postings.now noted.old.written) }
     ensures number { OnOk result (noted.new.written ≡ written) }
     ensures items { OnOk result (noted.new.metadata
-        ≡ spec.items_in (slice_get postings.now written)) }
+        ≡ spec.items_in details (slice_get postings.now written)) }
 {
     if noted.written == written {
         return Ok(());
     }
-    *noted = noted_at(alloc, postings, written)?;
+    *noted = noted_at(alloc, details, postings, written)?;
     Ok(())
 }
 
@@ -133,8 +138,8 @@ fn plain_row<'a>(
     postings: &[WrittenPosting<'a>],
     posted: &Posted<'a>,
 ) -> Result<Option<PlainRow<'a>>, AllocError>
-    ensures { IfOk result (λ found. IfSome found (λ row. (line : ℕ) → plain.row_of row
-        ≡ spec.row_of entry.now line postings.now posted.now)) }
+    ensures { IfOk result (λ found. IfSome found (λ row. (details : levels.Details) (line : ℕ)
+        → plain.row_of row ≡ spec.row_of details entry.now line postings.now posted.now)) }
 {
     let Some(written) = postings.get(posted.written) else {
         return Ok(None);
@@ -151,7 +156,7 @@ fn plain_row<'a>(
     }))
 }
 
-/// The row of a booked posting, which has the metadata and the price of the written one.
+/// The row of a booked posting that has this metadata, and the price of the written one.
 fn row_of<'a>(
     entry: &Shared<Entry<'a>>,
     line: usize,
@@ -159,11 +164,10 @@ fn row_of<'a>(
     metadata: Metadata<'a>,
     posted: &Posted<'a>,
 ) -> Result<Row<'a>, AllocError>
-    requires light { IsLight (booked_leg postings.now posted.now) }
-    requires noted { metadata
-        ≡ spec.items_in (slice_get postings.now posted.now.written) }
+    requires { IsLight (booked_leg postings.now posted.now) }
     ensures { IfOk result (λ row. row
-        ≡ spec.row_of entry.now line postings.now posted.now) }
+        ≡ spec.row_by entry.now line metadata.entry (slice_get postings.now posted.now.written)
+        posted.now) }
 {
     let (line, flag, price) = match postings.get(posted.written) {
         Some(written) => (written.line(), written.flag(), price_of(written)),
@@ -185,26 +189,23 @@ fn row_of<'a>(
 /// function of its own, so that any other makes no room for such a row.
 #[inline(never)]
 fn push_full<'a>(
-    alloc: Global,
     ledger: &mut Ledger<'a>,
     entry: &Shared<Entry<'a>>,
     line: usize,
     postings: &[WrittenPosting<'a>],
-    noted: &mut Noted<'a>,
+    metadata: &Metadata<'a>,
     posted: &Posted<'a>,
 ) -> Result<(), AllocError>
-    requires noted { noted.old.metadata ≡ spec.items_in (slice_get postings.now noted.old.written) }
     requires light { IsLight (booked_leg postings.now posted.now) }
     requires room { length ledger.old.rows < MOST_POSTINGS }
-    requires shaped { IsShaped widest (spec.row_of entry.now line postings.now posted.now) }
+    requires shaped { IsShaped widest (spec.row_by entry.now line metadata.now
+        (slice_get postings.now posted.now.written) posted.now) }
     ensures rows { OnOk result (ledger.new.rows
-        ≡ ledger.old.rows ++ spec.row_of entry.now line postings.now posted.now ∷ []) }
+        ≡ ledger.old.rows ++ spec.row_by entry.now line metadata.now
+        (slice_get postings.now posted.now.written) posted.now ∷ []) }
     ensures decimals { OnOk result (ledger.new.decimals ≡ ledger.old.decimals) }
-    ensures noted { OnOk result (noted.new.metadata
-        ≡ spec.items_in (slice_get postings.now noted.new.written)) }
 {
-    go_on(alloc, postings, noted, posted.written)?;
-    let metadata = noted.metadata.share()?;
+    let metadata = metadata.share()?;
     let row = row_of(entry, line, postings, metadata, posted)?;
     ledger.push(row)?;
     Ok(())
@@ -213,15 +214,16 @@ fn push_full<'a>(
 /// Adds the rows of the postings of a transaction that is kept.
 fn push_posted<'a>(
     alloc: Global,
+    details: Details,
     ledger: &mut Ledger<'a>,
     entry: &Shared<Entry<'a>>,
     kept: &Kept<'a>,
 ) -> Result<(), AllocError>
-    requires entry { (sets : choices.AccountSets) × (entry.now ≡ spec.entry_of sets kept.now) }
+    requires entry { entry.now ≡ spec.entry_of details kept.now }
     requires tame { IsTameKept kept.now }
     requires room { length ledger.old.rows + length kept.now.postings ≤ MOST_POSTINGS }
     ensures rows { OnOk result (ledger.new.rows
-        ≡ ledger.old.rows ++ spec.rows_with entry.now kept.now) }
+        ≡ ledger.old.rows ++ spec.rows_with details entry.now kept.now) }
     ensures decimals { OnOk result (ledger.new.decimals ≡ ledger.old.decimals) }
 {
     let line = kept.written.place().line;
@@ -232,7 +234,8 @@ fn push_posted<'a>(
             ledger.push_plain(plain)?;
             continue;
         }
-        push_full(alloc, ledger, entry, line, postings, &mut noted, one)?;
+        go_on(alloc, details, postings, &mut noted, one.written)?;
+        push_full(ledger, entry, line, postings, &noted.metadata, one)?;
     }
     Ok(())
 }
@@ -241,16 +244,16 @@ fn push_posted<'a>(
 pub(crate) fn push_transaction<'a>(
     alloc: Global,
     none: &NoExtras<'a>,
-    sets: AccountSets,
+    details: Details,
     ledger: &mut Ledger<'a>,
     kept: &Kept<'a>,
 ) -> Result<(), AllocError>
     requires tame { IsTameKept kept.now }
     requires room { length ledger.old.rows + length kept.now.postings ≤ MOST_POSTINGS }
     ensures rows { OnOk result (ledger.new.rows
-        ≡ ledger.old.rows ++ spec.rows_of_transaction sets kept.now) }
+        ≡ ledger.old.rows ++ spec.rows_of_transaction details kept.now) }
     ensures decimals { OnOk result (ledger.new.decimals ≡ ledger.old.decimals) }
 {
-    let entry = entry_of(alloc, none, sets, kept)?;
-    push_posted(alloc, ledger, &entry, kept)
+    let entry = entry_of(alloc, none, details, kept)?;
+    push_posted(alloc, details, ledger, &entry, kept)
 }

@@ -7,9 +7,9 @@ use Rattle.bean_book.specs.Booked as booked
 use Rattle.bean_book.specs.Booked.{decimals_from, rows_of_all, written_in_all}
 use Rattle.bean_book.specs.OneBook.{AreAlike}
 use Rattle.bean_book.specs.Reported.{reported}
-use Rattle.bean_book.specs.declared.account_sets.AccountSets.{AccountSets}
-use Rattle.bean_book.specs.declared.account_sets.AccountSets.TheVariants.{Made}
 use Rattle.bean_book.specs.declared.booked.Booked.{Booked}
+use Rattle.bean_book.specs.declared.details.Details.{Details}
+use Rattle.bean_book.specs.declared.details.Details.TheVariants.{All}
 use Rattle.bean_book.proofs.LeftOutFacts.{as_many_rows}
 use Rattle.bean_replay.proofs.OneBooking.{one_stand}
 use Rattle.bean_replay.specs.Booked.{bookings_of, faults_of, method_in_ledger}
@@ -27,35 +27,35 @@ use Rattle.bean_books.specs.Booking.{FindsFaults, HasTooMany, IsBookOf}
 too_many : (most n m : ℕ) → n ≤ most → n ≡ m → most < m → ⊥
 too_many most n m few same many = absurd (omega (arith, few, same, many))
 
-pub not_too_many : (sets : AccountSets) (texts : Texts) (b : Booked) → IsBookOf sets texts b
+pub not_too_many : (details : Details) (texts : Texts) (b : Booked) → IsBookOf details texts b
     → ¬ HasTooMany texts
-not_too_many sets texts b is many =
+not_too_many details texts b is many =
     let l = is.0 in
     let book = is.2 in
     let more : booked.HasTooMany l =
     subst booked.HasTooMany (one_loading texts many.0 l many.1 is.1) many.2 in
     let bs = bookings_of book.stand in
-    too_many MOST_POSTINGS (length b.ledger.rows) (length (rows_of_all Made bs)) book.ledger.few
-    (ap length book.ledger.rows ∙ as_many_rows sets bs) (more book.stand book.leads)
+    too_many MOST_POSTINGS (length b.ledger.rows) (length (rows_of_all All bs)) book.ledger.few
+    (ap length book.ledger.rows ∙ as_many_rows details bs) (more book.stand book.leads)
 
-alike : (sets : AccountSets) (l : Loaded) (a b : Booked) → booked.IsBookOf sets l a
-    → booked.IsBookOf sets l b → AreAlike a b
-alike sets l a b h g =
+alike : (details : Details) (l : Loaded) (a b : Booked) → booked.IsBookOf details l a
+    → booked.IsBookOf details l b → AreAlike a b
+alike details l a b h g =
     let same =
     one_stand (method_in_ledger l) (reverse l.directives) h.stand g.stand h.leads g.leads in
     record {
-      rows = h.ledger.rows ∙ ap (λ st. rows_of_all sets (bookings_of st)) same ∙ sym g.ledger.rows;
+      rows = h.ledger.rows ∙ ap (λ st. rows_of_all details (bookings_of st)) same ∙ sym g.ledger.rows;
       decimals = λ currency. h.ledger.decimals currency
           ∙ ap (λ st. decimals_from 0 currency (written_in_all (bookings_of st))) same
           ∙ sym (g.ledger.decimals currency);
       faults = h.faults ∙ ap (λ st. reported (faults_of l st)) same ∙ sym g.faults;
     }
 
-pub one_book : (sets : AccountSets) (texts : Texts) (a b : Booked) → IsBookOf sets texts a
-    → IsBookOf sets texts b → AreAlike a b
-one_book sets texts a b h g =
-    alike sets h.0 a b h.2
-    (subst (λ l. booked.IsBookOf sets l b) (one_loading texts g.0 h.0 g.1 h.1) g.2)
+pub one_book : (details : Details) (texts : Texts) (a b : Booked) → IsBookOf details texts a
+    → IsBookOf details texts b → AreAlike a b
+one_book details texts a b h g =
+    alike details h.0 a b h.2
+    (subst (λ l. booked.IsBookOf details l b) (one_loading texts g.0 h.0 g.1 h.1) g.2)
 
 -- what is found in what texts say is found in the texts
 pub found_in : (texts : Texts) (l : Loaded) → IsLoaded texts l

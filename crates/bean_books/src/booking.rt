@@ -2,21 +2,21 @@
 ghost use Rattle.bean_books.specs.Booking.{Books, FindsFaults};
 
 use bean_base::{Fault, List};
-use bean_book::{AccountSets, BookCause, Booked, book, find_faults};
+use bean_book::{BookCause, Booked, Details, book, find_faults};
 use bean_load::{Texts, load};
 use refusals::Refusal;
 use std::alloc::Global;
 
-/// The book of texts: their postings, with the sets of accounts or without, and their faults.
+/// The book of texts: their postings, with so much told of them, and their faults.
 pub fn book_of<'a>(
     alloc: Global,
     texts: &'a Texts,
-    sets: AccountSets,
+    details: Details,
 ) -> Result<Booked<'a>, Refusal<BookCause>>
-    ensures { Books sets texts.now result }
+    ensures { Books details texts.now result }
 {
     let loaded = load(alloc, texts)?;
-    book(alloc, loaded, sets)
+    book(alloc, loaded, details)
 }
 
 /// The faults in the book of texts.

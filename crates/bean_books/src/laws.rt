@@ -1,12 +1,12 @@
 //! Laws of the books of texts.
-ghost use Rattle.bean_books.specs.Booking.{OnlySetsAreLeftOut, SetsRefuseNothing};
+ghost use Rattle.bean_books.specs.Booking.{DetailsRefuseNothing, OnlyDetailsAreLeftOut};
 
-/// The book of texts without the sets of accounts is their book with them, but for them.
-pub fn only_sets_are_left_out()
-    ensures { OnlySetsAreLeftOut }
+/// The book of texts with few details is their book with all of them, but for those that aren't told.
+pub fn only_details_are_left_out()
+    ensures { OnlyDetailsAreLeftOut }
 {}
 
-/// What is refused without the sets of accounts is refused with them, and the other way round.
-pub fn sets_refuse_nothing()
-    ensures { SetsRefuseNothing }
+/// What is refused with some details is refused with any others.
+pub fn details_refuse_nothing()
+    ensures { DetailsRefuseNothing }
 {}

@@ -2,15 +2,15 @@
 //!
 //! ```text
 //! let texts = gather(alloc, &mut store, "main.beancount")?;
-//! let sets = AccountSets::Made;
-//! let booked = book_of(alloc, &texts, sets)?;    // its postings, and all that is wrong
-//! let faults = faults_in(alloc, &texts)?;        // the faults alone
+//! let details = Details::All;
+//! let booked = book_of(alloc, &texts, details)?;    // its postings, and all that is wrong
+//! let faults = faults_in(alloc, &texts)?;           // the faults alone
 //! ```
 //!
 //! [`bean_load`] reads what the texts say together, and [`bean_book`] books it. Texts have one book,
 //! and not both a book and too many postings: that is proved beside (`OneBook`). The caller chooses
-//! whether transactions have the sets of their accounts ([`bean_book::AccountSets`]): the book is the
-//! same but for them.
+//! how much is told of transactions and postings ([`bean_book::Details`]): the book is the same but
+//! for what isn't told.
 //!
 //! # Refusals
 //!
@@ -21,4 +21,4 @@ mod booking;
 mod laws;
 
 pub use booking::{book_of, faults_in};
-pub use laws::{only_sets_are_left_out, sets_refuse_nothing};
+pub use laws::{details_refuse_nothing, only_details_are_left_out};

@@ -2,8 +2,8 @@
 use Rattle.std.proofs.Common.{◌≡◌, inl, inr, ℕ, List, [], ◌∷◌, length, true, Result, Ok, Err}
 use Rattle.std.proofs.Common.{refl, sym, ap, ◌∙◌, subst, arith}
 use Rattle.bean_book.specs.OneBook.{AreAlike as SameBooks}
-use Rattle.bean_book.specs.declared.account_sets.AccountSets.TheVariants.{Made}
 use Rattle.bean_book.specs.declared.booked.Booked.{Booked}
+use Rattle.bean_book.specs.declared.details.Details.TheVariants.{All}
 use Rattle.bean_load.proofs.OneGathering.{one_gathering}
 use Rattle.bean_load.specs.Texts.{Texts}
 use Rattle.bean_load.specs.declared.cause.LoadCause.{LoadCause}
@@ -173,11 +173,11 @@ pub one_about_book : (Says : Booked → End → Type 0) → SaysOne Says → (te
 one_about_book Says one texts a b (inl h) (inl k) =
     both_are a b (Err cause.TooManyPostings) h.1 k.1
 one_about_book Says one texts a b (inl h) (inr k) =
-    absurd (not_too_many Made texts k.0 k.1 h.0)
+    absurd (not_too_many All texts k.0 k.1 h.0)
 one_about_book Says one texts a b (inr h) (inl k) =
-    absurd (not_too_many Made texts h.0 h.1 k.0)
+    absurd (not_too_many All texts h.0 h.1 k.0)
 one_about_book Says one texts a b (inr h) (inr k) =
-    one h.0 k.0 (one_book Made texts h.0 k.0 h.1 k.1) a b h.2 k.2
+    one h.0 k.0 (one_book All texts h.0 k.0 h.1 k.1) a b h.2 k.2
 
 -- ---- a program
 

@@ -4,7 +4,7 @@ pub mod OneEnd
 pub mod StatusFacts
 pub mod Outcomes
 pub mod AcceptedFacts
-pub mod SetsFacts
+pub mod DetailsFacts
 pub mod BatchFacts
 pub mod Programmed
 pub mod InMemory

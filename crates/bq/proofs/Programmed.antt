@@ -1,8 +1,8 @@
 -- From the file of a query's program to what a command comes to.
 use Rattle.std.proofs.Common.{◌≡◌, inl, inr, ℕ, List, [], true, Result, Ok, Err, refl, sym, ap, subst, ◌∙◌}
 use Rattle.std.proofs.lemmas.Bool.{false≢true}
-use Rattle.bean_book.specs.declared.account_sets.AccountSets.TheVariants.{Made}
 use Rattle.bean_book.specs.declared.booked.Booked.{Booked}
+use Rattle.bean_book.specs.declared.details.Details.TheVariants.{All}
 use Rattle.bean_load.specs.Texts.{Texts}
 use Rattle.bql_parser.specs.Asked.{Asked}
 use Rattle.bql_compiler.specs.Carried.{Carries}
@@ -125,7 +125,7 @@ ran file p depth is b end h =
     let same = one_program file h.0 p h.1 depth h.2 is in
     subst (λ d. Ran p d b end) same.1 (subst (λ x. Ran x h.1 b end) same.0 h.3)
 
-pub not_run : (texts : Texts) (b : Booked) → IsBookOf Made texts b → (file : List ℕ) (r : Refusal)
+pub not_run : (texts : Texts) (b : Booked) → IsBookOf All texts b → (file : List ℕ) (r : Refusal)
     → HasTable file b.ledger (Err r) → ComesTo (about_book (FileRan file) texts) (Err r)
 not_run texts b book file (Refused cause.OutsideBounds) is =
     inr (b, book, (is.program, is.depth, is.verified, inl (is.outside, refl)))

@@ -4,8 +4,9 @@ use Rattle.std.proofs.Common.{refl, sym, ap, subst, ◌∙◌, arith}
 use Rattle.std.specs.List.{slice_get}
 use Rattle.std.specs.Option.{option_map}
 use Rattle.std.proofs.lemmas.Option.{get_or_from_slice_get, slice_get-map}
-use Rattle.bean_book.specs.LeftOut.{IsSameButAccounts, row_but_accounts}
+use Rattle.bean_book.specs.LeftOut.{IsToldOf, row_told}
 use Rattle.bean_book.specs.declared.booked.Booked.{Booked}
+use Rattle.bean_book.specs.declared.details.Details.TheVariants.{Few}
 use Rattle.posting_table.specs.Decimals.{decimals_of}
 use Rattle.posting_table.specs.declared.row.Row.{Row}
 use Rattle.query_values.specs.declared.value.Value.{Value}
@@ -43,14 +44,14 @@ none_in_the_last (Some h) n rows all =
     no_number (r ∷ rows) zero within = refl
     no_number (r ∷ rows) (suc k) within = no_number rows k (omega (arith, within))
 
--- ---- without the accounts of transactions
+-- ---- with few details
 
-rows_alike : (rows : List Row) → map shown_row (map row_but_accounts rows) ≡ map shown_row rows
+rows_alike : (rows : List Row) → map shown_row (map (row_told Few) rows) ≡ map shown_row rows
 rows_alike [] = refl
 rows_alike (r ∷ rows) = ap (λ rest. shown_row r ∷ rest) (rows_alike rows)
 
--- a listing shows nothing of them
-pub listed_alike : (bare whole : Booked) → IsSameButAccounts bare whole
+-- a listing shows none of the others
+pub listed_alike : (bare whole : Booked) → IsToldOf Few bare whole
     → table_of bare.ledger ≡ table_of whole.ledger
 listed_alike bare whole same =
     ap (λ rows. table_text headers (map shown_row rows) (decimals_of bare.ledger.decimals)) same.rows

@@ -10,7 +10,7 @@ pub mod Show
 pub mod Verified
 pub mod Verify
 pub mod Upgrade
-pub mod Sets
+pub mod Details
 pub mod Ran
 pub mod RunFile
 pub mod Asking

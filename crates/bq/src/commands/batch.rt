@@ -7,9 +7,9 @@ ghost use Rattle.bq.specs.Batch as command;
 ghost use Rattle.bq.specs.Runs.{Finds};
 ghost use Rattle.requests.specs.Batch as words;
 
+use crate::commands::details::details_for_all;
 use crate::commands::file::file_bytes;
 use crate::commands::ledger::{Question, answer_about};
-use crate::commands::sets::sets_for_all;
 use crate::given::Given;
 use crate::text::Text;
 use bean_base::{List, Slice};
@@ -139,8 +139,8 @@ impl Question for Batching<'_, '_> {
     ghost says = { λ batch. about_book (FilesBatched batch.names.now batch.files.now) };
 
     fn answer<'w>(&self, alloc: Global, texts: Texts) -> Result<Given<'w>, Refusal> {
-        let sets = sets_for_all(alloc, self.files)?;
-        let booked = book_of(alloc, &texts, sets)?;
+        let details = details_for_all(alloc, self.files)?;
+        let booked = book_of(alloc, &texts, details)?;
         let ended = file_fates(alloc, self.files, &booked.ledger, self.steps)?;
         // The process ends soon, and takes all memory back at once.
         forget(booked);

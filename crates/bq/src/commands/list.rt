@@ -10,7 +10,7 @@ use crate::commands::ledger::Question;
 use crate::given::Given;
 use crate::shown::{Part, Postings};
 use crate::text::Text;
-use bean_book::AccountSets;
+use bean_book::Details;
 use bean_books::book_of;
 use bean_load::Texts;
 use endings::{Refusal, Verdict};
@@ -61,8 +61,8 @@ impl Question for Listing {
     ghost says = { λ _. Lists };
 
     fn answer<'w>(&self, alloc: Global, texts: Texts) -> Result<Given<'w>, Refusal> {
-        // Nothing of the table is told by the accounts of a transaction.
-        let mut booked = book_of(alloc, &texts, AccountSets::LeftOut)?;
+        // The table shows neither accounts of transactions, nor tags, links and metadata.
+        let mut booked = book_of(alloc, &texts, Details::Few)?;
         let text = printed(alloc, &mut booked.ledger)?;
         // The process ends soon, and takes all memory back at once.
         forget(booked);

@@ -4,8 +4,8 @@ ghost use Rattle.bq.specs.Query.{HasBounds};
 ghost use Rattle.bq.specs.Runs.{Finds};
 ghost use Rattle.query_rows.specs.ColumnShape.{widest};
 
+use crate::commands::details::details_for;
 use crate::commands::ledger::{Question, answer_about};
-use crate::commands::sets::sets_for;
 use crate::commands::table::table_of;
 use crate::given::Given;
 use crate::text::Text;
@@ -40,8 +40,8 @@ impl Question for Asking<'_> {
     ghost says = { λ asking. about_book (FileAnswers asking.file.now) };
 
     fn answer<'w>(&self, alloc: Global, texts: Texts) -> Result<Given<'w>, Refusal> {
-        let sets = sets_for(alloc, self.file)?;
-        let booked = book_of(alloc, &texts, sets)?;
+        let details = details_for(alloc, self.file)?;
+        let booked = book_of(alloc, &texts, details)?;
         // So its program is never refused for them.
         prove!(booked.ledger.fits(&WIDEST));
         let text = table_of(alloc, self.file, &booked.ledger)?;

@@ -2,9 +2,9 @@
 ghost use Rattle.bq.specs.RunFile as command;
 ghost use Rattle.bq.specs.Runs.{Finds};
 
+use crate::commands::details::details_for;
 use crate::commands::file::file_bytes;
 use crate::commands::ledger::{Question, answer_about};
-use crate::commands::sets::sets_for;
 use crate::commands::table::table_of;
 use crate::given::Given;
 use crate::text::Text;
@@ -29,8 +29,8 @@ impl Question for Running<'_> {
     ghost says = { λ running. about_book (FileRan running.file.now) };
 
     fn answer<'w>(&self, alloc: Global, texts: Texts) -> Result<Given<'w>, Refusal> {
-        let sets = sets_for(alloc, self.file)?;
-        let booked = book_of(alloc, &texts, sets)?;
+        let details = details_for(alloc, self.file)?;
+        let booked = book_of(alloc, &texts, details)?;
         let text = table_of(alloc, self.file, &booked.ledger)?;
         // The process ends soon, and takes all memory back at once.
         forget(booked);

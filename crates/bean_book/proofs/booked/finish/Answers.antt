@@ -24,18 +24,18 @@ with_pads-requires-clause-booked c =
 
 pub returns-in-Err : goal.returns-in-Err
 returns-in-Err c = λ l b.
-    let sets = c.args.sets in
+    let details = c.args.details in
     let fault = c.in-Err.fault in
     let pads = c.into_vec.ensures ∙ b.finished.pads_are in
     let places =
     as_many (method_in_ledger l) (reverse l.directives) b.stand b.leads ∙ ap length (sym pads) in
-    too_many_rows sets l b.stand b.leads fault
-    (subst (λ ps. MakesLedger sets (with_pads b.stand.drafts ps) (Err fault)) pads
+    too_many_rows details l b.stand b.leads fault
+    (subst (λ ps. MakesLedger details (with_pads b.stand.drafts ps) (Err fault)) pads
     (c.in-Err.ensures b.stand.drafts b.finished.taken places))
 
 pub returns : goal.returns
 returns c = λ l b.
-    let sets = c.args.sets in
+    let details = c.args.details in
     let ledger = c.in-Ok.ledger in
     let pads = c.into_vec.ensures ∙ b.finished.pads_are in
     let places =
@@ -43,7 +43,7 @@ returns c = λ l b.
     record {
       stand = b.stand;
       leads = b.leads;
-      ledger = subst (λ ps. IsLedgerOf sets (with_pads b.stand.drafts ps) ledger) pads
+      ledger = subst (λ ps. IsLedgerOf details (with_pads b.stand.drafts ps) ledger) pads
           (c.in-Ok.ensures b.stand.drafts b.finished.taken places);
       faults = c.new.ensures ∙ c.in_ok-report.ensures
           ∙ ap reported (c.into_vec-faults.ensures ∙ b.finished.faults_are);

@@ -1,13 +1,13 @@
 use Rattle.std.proofs.Common.{◌+◌, ap, arith, get_or, length, length-append, sym, take, ◌∙◌}
 use Rattle.std.specs.List.{flat_map}
 use Rattle.bean_book.specs.Rows.{padding_entry, rows_of_note}
-use Rattle.bean_book.specs.declared.account_sets.AccountSets.TheVariants.{Made}
+use Rattle.bean_book.specs.declared.details.Details.TheVariants.{All}
 use Rattle.bean_book.proofs.ListFacts.{flat_map_more, length-flat_map-take}
 use Rattle.bean_book.proofs.counts.count_pad.Goals as goal
 
 pub returns-in-Err-clause-full : goal.returns-in-Err-clause-full
 returns-in-Err-clause-full c = λ refused.
-    let common = padding_entry Made c.args.noted.now in
+    let common = padding_entry All c.args.noted.now in
     let rows = rows_of_note common c.args.noted.now in
     let notes = c.as_slice-note-items.result.now in
     let are = c.as_slice-note-items.ensures in

@@ -6,11 +6,11 @@ use Rattle.bean_book.specs.Reported.{reported}
 use Rattle.bean_book.proofs.laws.one_book.Goals as goal
 
 pub returns : goal.returns
-returns c = λ sets l a b h g.
+returns c = λ details l a b h g.
     let same =
     one_stand (method_in_ledger l) (reverse l.directives) h.stand g.stand h.leads g.leads in
     record {
-      rows = h.ledger.rows ∙ ap (λ st. rows_of_all sets (bookings_of st)) same ∙ sym g.ledger.rows;
+      rows = h.ledger.rows ∙ ap (λ st. rows_of_all details (bookings_of st)) same ∙ sym g.ledger.rows;
       decimals = λ currency. h.ledger.decimals currency
           ∙ ap (λ st. decimals_from 0 currency (written_in_all (bookings_of st))) same
           ∙ sym (g.ledger.decimals currency);

@@ -19,7 +19,7 @@ none_promised (suc n) h = absurd (h (omega arith))
 
 pub put_pad-requires-clause-room : goal.put_pad-requires-clause-room
 put_pad-requires-clause-room c =
-    let sets = c.args.sets in
+    let details = c.args.details in
     let l = c.loop-noted in
     let places = c.next-in-loop-noted.new.self.rest.items in
     let pads = c.next.new.self.rest.items in
@@ -27,16 +27,16 @@ put_pad-requires-clause-room c =
     let next = c.in-Some.ensures.steps.0 in
     let whole =
     ap length
-    ((λ i. l.ledger.rows ++ with_rows sets l.passed l.rest (sym place i) (sym next i)) ∙ l.invariant.rows)
+    ((λ i. l.ledger.rows ++ with_rows details l.passed l.rest (sym place i) (sym next i)) ∙ l.invariant.rows)
     in
     let both = length-append l.ledger.rows
-    (with_rows sets l.passed l.rest (c.in-Some-next.place ∷ places) (c.in-Some.noted ∷ pads)) in
-    let own = pad_within sets l.passed c.in-Some-next.place l.rest places c.in-Some.noted pads in
+    (with_rows details l.passed l.rest (c.in-Some-next.place ∷ places) (c.in-Some.noted ∷ pads)) in
+    let own = pad_within details l.passed c.in-Some-next.place l.rest places c.in-Some.noted pads in
     let room = c.requires.room in omega (arith, room, whole, both, own)
 
 pub loop-noted-preserved : goal.loop-noted-preserved
 loop-noted-preserved c =
-    let sets = c.args.sets in
+    let details = c.args.details in
     let l = c.loop-noted in
     let now = c.match-next-2 in
     let places = c.next-in-loop-noted.new.self.rest.items in
@@ -51,13 +51,13 @@ loop-noted-preserved c =
           let put = w.in_ok-put_pad.ensures in
           let gap : w.saturating_sub-count.result ≡ place - l.passed = w.saturating_sub-count.ensures in
           record {
-            rows = (λ i. (w.ledger-is i).rows ++ with_rows sets (w.passed-is i) (w.rest-is i) places pads)
-                ∙ (λ i. put.rows i ++ with_rows sets place (put.rest i) places pads)
-                ∙ ap (λ n. (l.ledger.rows ++ (take n l.rest ++ rows_of_pad sets noted))
-                ++ with_rows sets place (drop n l.rest) places pads) gap
-                ∙ append_assoc l.ledger.rows (take (place - l.passed) l.rest ++ rows_of_pad sets noted)
-                (with_rows sets place (drop (place - l.passed) l.rest) places pads)
-                ∙ (λ i. l.ledger.rows ++ with_rows sets l.passed l.rest (sym behind i) (sym next i))
+            rows = (λ i. (w.ledger-is i).rows ++ with_rows details (w.passed-is i) (w.rest-is i) places pads)
+                ∙ (λ i. put.rows i ++ with_rows details place (put.rest i) places pads)
+                ∙ ap (λ n. (l.ledger.rows ++ (take n l.rest ++ rows_of_pad details noted))
+                ++ with_rows details place (drop n l.rest) places pads) gap
+                ∙ append_assoc l.ledger.rows (take (place - l.passed) l.rest ++ rows_of_pad details noted)
+                (with_rows details place (drop (place - l.passed) l.rest) places pads)
+                ∙ (λ i. l.ledger.rows ++ with_rows details l.passed l.rest (sym behind i) (sym next i))
                 ∙ l.invariant.rows;
             decimals = ap (λ (t : Ledger). t.decimals) w.ledger-is ∙ put.decimals
                 ∙ l.invariant.decimals;
@@ -71,8 +71,8 @@ loop-noted-preserved c =
           let none = empty left.items (omega (arith, count, zero)) in
           let after = sym w.in_default.ensures.items ∙ none in
           record {
-            rows = (λ i. (w.ledger-is i).rows ++ with_rows sets (w.passed-is i) (w.rest-is i) (after i) pads)
-                ∙ (λ i. l.ledger.rows ++ with_rows sets l.passed l.rest (sym none i) (sym next i))
+            rows = (λ i. (w.ledger-is i).rows ++ with_rows details (w.passed-is i) (w.rest-is i) (after i) pads)
+                ∙ (λ i. l.ledger.rows ++ with_rows details l.passed l.rest (sym none i) (sym next i))
                 ∙ l.invariant.rows;
             decimals = ap (λ (t : Ledger). t.decimals) w.ledger-is ∙ l.invariant.decimals;
             small = small;
@@ -81,14 +81,14 @@ loop-noted-preserved c =
 
 pub returns-clause-rows : goal.returns-clause-rows
 returns-clause-rows c =
-    let sets = c.args.sets in
+    let details = c.args.details in
     let l = c.loop-noted in
     let left = l.noted-iterator.rest in
     let count = left.ok.0 in
     let done = c.in-None.ensures.steps.0 in
     let none = empty left.items (omega (arith, count, done)) in
     let whole =
-    sym (ap (λ qs. l.ledger.rows ++ with_rows sets l.passed l.rest l.left.rest.items qs) none)
+    sym (ap (λ qs. l.ledger.rows ++ with_rows details l.passed l.rest l.left.rest.items qs) none)
     ∙ l.invariant.rows in
     let as_many = ap length whole in
     let both = length-append l.ledger.rows l.rest in

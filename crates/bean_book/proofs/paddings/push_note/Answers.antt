@@ -6,7 +6,7 @@ use Rattle.posting_table.specs.Shaped.{IsShaped}
 use Rattle.query_rows.specs.ColumnShape.{widest}
 use Rattle.posting_table.proofs.PartFacts.{row_lies}
 use Rattle.bean_book.specs.Rows.{padding_entry, padding_row, rows_by}
-use Rattle.bean_book.specs.declared.account_sets.AccountSets.{AccountSets}
+use Rattle.bean_book.specs.declared.details.Details.{Details}
 use Rattle.posting_table.specs.Parts.{HasShortTexts}
 use Rattle.posting_entries.specs.declared.entry.EntryParts.{EntryParts}
 use Rattle.bean_pad.specs.declared.note.NotedPad.{NotedPad}
@@ -17,7 +17,7 @@ use Rattle.bean_book.proofs.paddings.push_note.Goals as goal
 
 -- what the rows of a pad have in common is short
 short : (e : EntryParts) (n : NotedPad)
-    → (sets : AccountSets) × (e ≡ padding_entry sets n) → IsSmallNoted n → HasShortTexts e
+    → (details : Details) × (e ≡ padding_entry details n) → IsSmallNoted n → HasShortTexts e
 short e n is small =
     subst HasShortTexts (sym is.1) (padding_short is.0 n small.pad)
 

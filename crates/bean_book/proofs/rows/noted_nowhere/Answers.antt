@@ -4,6 +4,6 @@ use Rattle.bean_book.specs.Rows.{items_in}
 use Rattle.bean_book.proofs.rows.noted_nowhere.Goals as goal
 
 pub returns : goal.returns
-returns c =
+returns c = λ details.
     let ps = c.args.postings.now in
-    c.empty.ensures ∙ sym (ap items_in (slice_get_past ps (length ps) (omega arith)))
+    c.empty.ensures ∙ sym (ap (items_in details) (slice_get_past ps (length ps) (omega arith)))

@@ -1,6 +1,6 @@
 use Rattle.std.proofs.Common.{◌≡◌, ◌+◌, ◌++◌, ◌∷◌, [], ap, append_assoc, arith, get_or, length, map}
 use Rattle.std.proofs.Common.{length-append}
-use Rattle.std.proofs.Common.{subst, sym, take, ◌∙◌}
+use Rattle.std.proofs.Common.{slice_get, subst, sym, take, ◌∙◌}
 use Rattle.std.proofs.lemmas.List.{length-map, length-take-le, map-append, take_more}
 use Rattle.std.proofs.Common.{ℕ, ◌<◌, List, Option, Some, IfSome}
 use Rattle.std.specs.List.{AllByRecursion}
@@ -22,8 +22,9 @@ use Rattle.bean_directives.specs.declared.transaction.Transaction.{Transaction}
 use Rattle.bean_book.specs.Tame.{IsTameKept}
 use Rattle.query_rows.specs.ColumnShape.{widest}
 use Rattle.posting_table.proofs.PartFacts.{row_lies}
-use Rattle.bean_book.specs.Rows.{entry_of, row_of}
-use Rattle.bean_book.specs.declared.account_sets.AccountSets.{AccountSets}
+use Rattle.posting_entries.specs.declared.metadata.MetaItem.{MetaItem}
+use Rattle.bean_book.specs.Rows.{entry_of, items_in, row_by, row_of}
+use Rattle.bean_book.specs.declared.details.Details.{Details}
 use Rattle.posting_table.specs.Parts.{HasShortTexts}
 use Rattle.bean_book.proofs.ShapedFacts.{entry_short, row_small}
 use Rattle.bean_book.proofs.rows.push_posted.Goals as goal
@@ -58,13 +59,14 @@ given_some : {X : Type 0} (P : X → Type 0) (o : Option X) (x : X) → o ≡ So
 given_some P o x is h = subst (λ q. IfSome q P) is h
 
 -- the row of a booked posting of a tame transaction lies in the widest shapes
-lies : (k : Kept) (e : EntryParts) (posted : List Posted) (i : ℕ) (p : Posted) (row : Row)
-    → IsTameKept k → (sets : AccountSets) × (e ≡ entry_of sets k)
+lies : (details : Details) (k : Kept) (e : EntryParts) (posted : List Posted) (i : ℕ) (p : Posted)
+    (row : Row)
+    → IsTameKept k → e ≡ entry_of details k
     → posted ≡ k.postings → i < length posted → p ≡ get_or posted i p
-    → row ≡ row_of e k.written.place.line k.written.transaction.postings p
+    → row ≡ row_of details e k.written.place.line k.written.transaction.postings p
     → IsShaped widest row
-lies k e posted i p row tame common same within at is =
-    let texts = subst HasShortTexts (sym common.1) (entry_short common.0 k tame) in
+lies details k e posted i p row tame common same within at is =
+    let texts = subst HasShortTexts (sym common) (entry_short details k tame) in
     let ps = k.written.transaction.postings in
     let line = k.written.place.line in
     let small = tame.small in
@@ -73,20 +75,20 @@ lies k e posted i p row tame common same within at is =
     let own = found_at IsSmallPosted posted i p within at
     (subst (AllByRecursion IsSmallPosted) (sym same) small.postings) in
     subst (IsShaped widest) (sym is)
-    (row_lies (row_of e line ps p)
-    (row_small e line ps p texts own light small.transaction.postings
+    (row_lies (row_of details e line ps p)
+    (row_small details e line ps p texts own light small.transaction.postings
     small.line))
 
 -- one row more
-one_more : (k : Kept) (e : EntryParts) (items : List Posted) (i : ℕ) (p : Posted) → items ≡ k.postings
-    → i < length items → p ≡ get_or items i p
-    → map (row_of e k.written.place.line k.written.transaction.postings)
+one_more : (details : Details) (k : Kept) (e : EntryParts) (items : List Posted) (i : ℕ)
+    (p : Posted) → items ≡ k.postings → i < length items → p ≡ get_or items i p
+    → map (row_of details e k.written.place.line k.written.transaction.postings)
     (take (i + 1) k.postings)
-    ≡ map (row_of e k.written.place.line k.written.transaction.postings)
+    ≡ map (row_of details e k.written.place.line k.written.transaction.postings)
     (take i k.postings)
-    ++ row_of e k.written.place.line k.written.transaction.postings p ∷ []
-one_more k e items i p are within at =
-    let row = row_of e k.written.place.line k.written.transaction.postings in
+    ++ row_of details e k.written.place.line k.written.transaction.postings p ∷ []
+one_more details k e items i p are within at =
+    let row = row_of details e k.written.place.line k.written.transaction.postings in
     ap (λ l. map row (take (i + 1) l)) (sym are)
     ∙ ap (map row) (take_more items i p within)
     ∙ map-append row (take i items) (get_or items i p ∷ [])
@@ -94,39 +96,42 @@ one_more k e items i p are within at =
     ∙ ap (λ l. map row (take i l) ++ row p ∷ []) are
 
 -- rows with one more behind them
-behind : (k : Kept) (e : EntryParts) (old new before : List Row) (row : Row) (i : ℕ) (p : Posted)
-    (items : List Posted)
+behind : (details : Details) (k : Kept) (e : EntryParts) (old new before : List Row) (row : Row)
+    (i : ℕ) (p : Posted) (items : List Posted)
     → new ≡ before ++ row ∷ []
-    → before ≡ old ++ map (row_of e k.written.place.line k.written.transaction.postings)
+    → before ≡ old ++ map (row_of details e k.written.place.line k.written.transaction.postings)
     (take i k.postings)
-    → row ≡ row_of e k.written.place.line k.written.transaction.postings p
+    → row ≡ row_of details e k.written.place.line k.written.transaction.postings p
     → items ≡ k.postings → i < length items → p ≡ get_or items i p
-    → new ≡ old ++ map (row_of e k.written.place.line k.written.transaction.postings)
+    → new ≡ old ++ map (row_of details e k.written.place.line k.written.transaction.postings)
     (take (i + 1) k.postings)
-behind k e old new before row i p items pushed was is are within at =
-    let row_at = row_of e k.written.place.line k.written.transaction.postings in
+behind details k e old new before row i p items pushed was is are within at =
+    let row_at = row_of details e k.written.place.line k.written.transaction.postings in
     pushed ∙ (λ j. was j ++ is j ∷ [])
     ∙ append_assoc old (map row_at (take i k.postings)) (row_at p ∷ [])
-    ∙ ap (λ l. old ++ l) (sym (one_more k e items i p are within at))
+    ∙ ap (λ l. old ++ l) (sym (one_more details k e items i p are within at))
 
--- the row of a posting, of what is at hand of its transaction
-own_row : (k : Kept) (at : Place) (t : Transaction) (e : EntryParts) (ps : List Posting)
-    (p : Posted) → at ≡ k.written.place → t ≡ k.written.transaction → ps ≡ t.postings
-    → row_of e at.line ps p
-    ≡ row_of e k.written.place.line k.written.transaction.postings p
-own_row k at t e ps p there same are = λ i.
-    row_of e (there i).line (postings_of k t ps same are i) p
+-- the row of a posting, of what is at hand of its transaction, and of its metadata
+own_row : (details : Details) (k : Kept) (at : Place) (t : Transaction) (e : EntryParts)
+    (ps : List Posting) (items : List MetaItem) (p : Posted)
+    → at ≡ k.written.place → t ≡ k.written.transaction → ps ≡ t.postings
+    → items ≡ items_in details (slice_get ps p.written)
+    → row_by e at.line items (slice_get ps p.written) p
+    ≡ row_of details e k.written.place.line k.written.transaction.postings p
+own_row details k at t e ps items p there same are noted =
+    ap (λ its. row_by e at.line its (slice_get ps p.written) p) noted
+    ∙ (λ i. row_of details e (there i).line (postings_of k t ps same are i) p)
 
 pub push_full-requires-clause-shaped : goal.push_full-requires-clause-shaped
 push_full-requires-clause-shaped c =
     let k = c.args.kept.now in
     let e = c.args.entry.now in
     let p = c.one-item.result in
-    lies k e c.as_slice-one-items.result.now c.loop-one.one-index p _ c.requires.tame
-    c.requires.entry c.as_slice-one-items.ensures (omega arith) c.one-item.is
-    (own_row k c.place-line.result c.transaction.result.now c.args.entry.now
-    c.as_slice-postings.result.now p c.place-line.ensures c.transaction.ensures
-    c.as_slice-postings.ensures)
+    lies c.args.details k e c.as_slice-one-items.result.now c.loop-one.one-index p _
+    c.requires.tame c.requires.entry c.as_slice-one-items.ensures (omega arith) c.one-item.is
+    (own_row c.args.details k c.place-line.result c.transaction.result.now e
+    c.as_slice-postings.result.now _ p c.place-line.ensures c.transaction.ensures
+    c.as_slice-postings.ensures c.in_ok-go_on.ensures.items)
 
 pub push_plain-requires-clause-shaped : goal.push_plain-requires-clause-shaped
 push_plain-requires-clause-shaped c =
@@ -134,10 +139,11 @@ push_plain-requires-clause-shaped c =
     let e = c.args.entry.now in
     let line = k.written.place.line in
     let p = c.one-item.result in
-    lies k e c.as_slice-one-items.result.now c.loop-one.one-index p (plain.row_of c.in-Some.plain)
+    lies c.args.details k e c.as_slice-one-items.result.now c.loop-one.one-index p
+    (plain.row_of c.in-Some.plain)
     c.requires.tame c.requires.entry c.as_slice-one-items.ensures (omega arith) c.one-item.is
-    (given_some _ _ c.in-Some.plain c.in-Some.is c.in_ok-plain.ensures line
-    ∙ ap (λ ps. row_of e line ps p)
+    (given_some _ _ c.in-Some.plain c.in-Some.is c.in_ok-plain.ensures c.args.details line
+    ∙ ap (λ ps. row_of c.args.details e line ps p)
     (postings_of k c.transaction.result.now _ c.transaction.ensures c.as_slice-postings.ensures))
 
 pub push_full-requires-clause-room : goal.push_full-requires-clause-room
@@ -145,7 +151,7 @@ push_full-requires-clause-room c =
     let k = c.args.kept.now in
     let e = c.args.entry.now in
     let room = c.requires.room in
-    let row = row_of e k.written.place.line k.written.transaction.postings in
+    let row = row_of c.args.details e k.written.place.line k.written.transaction.postings in
     let taken = take c.loop-one.one-index k.postings in
     let before =
     ap length c.loop-one.invariant.rows ∙ length-append c.args.ledger.now.rows (map row taken)
@@ -160,7 +166,7 @@ push_plain-requires-clause-room c =
     let k = c.args.kept.now in
     let e = c.args.entry.now in
     let room = c.requires.room in
-    let row = row_of e k.written.place.line k.written.transaction.postings in
+    let row = row_of c.args.details e k.written.place.line k.written.transaction.postings in
     let taken = take c.loop-one.one-index k.postings in
     let before =
     ap length c.loop-one.invariant.rows ∙ length-append c.args.ledger.now.rows (map row taken)
@@ -176,12 +182,12 @@ loop-one-preserved-in-Some c =
     let e = c.args.entry.now in
     let line = k.written.place.line in
     let p = c.one-item.result in record {
-      rows = behind k e c.args.ledger.now.rows _ _ (plain.row_of c.in-Some.plain)
+      rows = behind c.args.details k e c.args.ledger.now.rows _ _ (plain.row_of c.in-Some.plain)
           c.loop-one.one-index p c.as_slice-one-items.result.now
           (ap (λ (l : Ledger). l.rows) c.in_ok-push_plain.ensures.pushed)
           c.loop-one.invariant.rows
-          (given_some _ _ c.in-Some.plain c.in-Some.is c.in_ok-plain.ensures line
-          ∙ ap (λ ps. row_of e line ps p)
+          (given_some _ _ c.in-Some.plain c.in-Some.is c.in_ok-plain.ensures c.args.details line
+          ∙ ap (λ ps. row_of c.args.details e line ps p)
           (postings_of k c.transaction.result.now _ c.transaction.ensures c.as_slice-postings.ensures))
           c.as_slice-one-items.ensures (omega arith) c.one-item.is;
       decimals = ap (λ (l : Ledger). l.decimals) c.in_ok-push_plain.ensures.pushed
@@ -194,12 +200,14 @@ loop-one-preserved c =
     let k = c.args.kept.now in
     let e = c.args.entry.now in
     let p = c.one-item.result in record {
-      rows = behind k e c.args.ledger.now.rows _ _ _ c.loop-one.one-index p
+      rows = behind c.args.details k e c.args.ledger.now.rows _ _ _ c.loop-one.one-index p
           c.as_slice-one-items.result.now c.in_ok-push_full.ensures.rows c.loop-one.invariant.rows
-          (own_row k c.place-line.result c.transaction.result.now c.args.entry.now
-          c.as_slice-postings.result.now p c.place-line.ensures c.transaction.ensures
-          c.as_slice-postings.ensures)
+          (own_row c.args.details k c.place-line.result c.transaction.result.now e
+          c.as_slice-postings.result.now _ p c.place-line.ensures c.transaction.ensures
+          c.as_slice-postings.ensures c.in_ok-go_on.ensures.items)
           c.as_slice-one-items.ensures (omega arith) c.one-item.is;
       decimals = c.in_ok-push_full.ensures.decimals ∙ c.loop-one.invariant.decimals;
-      noted = c.in_ok-push_full.ensures.noted;
+      noted = c.in_ok-go_on.ensures.items
+          ∙ ap (λ n. items_in c.args.details (slice_get c.as_slice-postings.result.now n))
+          (sym c.in_ok-go_on.ensures.number);
     }

@@ -6,8 +6,8 @@ abbrev pub invariant-loop-one : goal.invariant-loop-one
 invariant-loop-one l = record {
   rows : l.ledger.rows
       ≡ l.initial.ledger.rows
-      ++ map (row_of l.entry l.kept.written.place.line l.kept.written.transaction.postings)
+      ++ map (row_of l.details l.entry l.kept.written.place.line l.kept.written.transaction.postings)
       (take l.one-index l.kept.postings);
   decimals : l.ledger.decimals ≡ l.initial.ledger.decimals;
-  noted : l.noted.metadata ≡ items_in (slice_get l.postings l.noted.written);
+  noted : l.noted.metadata ≡ items_in l.details (slice_get l.postings l.noted.written);
 }

@@ -7,7 +7,7 @@ use Rattle.posting_table.specs.Ledger.{Ledger}
 use Rattle.bean_book.proofs.ledger.LedgerRows.new.Goals as goal
 
 pub returns : goal.returns
-returns c = λ sets. record {
+returns c = λ details. record {
   rows = ap (λ (l : Ledger). l.rows) c.new-2.ensures;
   decimals = λ name. ap (λ (l : Ledger). decimals_of l.decimals name) c.new-2.ensures
       ∙ ap (λ o. unwrap_or o 0) (get-empty (slice_cmp nat_cmp) name);

@@ -7,7 +7,7 @@ use Rattle.bq.specs.declared.given.Given.TheVariants.{Told}
 use Rattle.endings.specs.declared.refusal.Refusal.TheVariants.{OutOfMemory}
 use Rattle.bq.proofs.BatchFacts.{fates_for}
 use Rattle.bq.proofs.Outcomes.{converted, not_booked}
-use Rattle.bq.proofs.SetsFacts.{fates_of_whole}
+use Rattle.bq.proofs.DetailsFacts.{fates_of_whole}
 use Rattle.bq.proofs.commands.batch.BatchingQuestion.answer.Goals as goal
 
 pub file_fates-requires-clause-some : goal.file_fates-requires-clause-some
@@ -24,8 +24,8 @@ text_of-requires c =
     c.in_ok-ended.ensures
     ∙ batch.each
 
-pub returns-in_err-sets : goal.returns-in_err-sets
-returns-in_err-sets c =
+pub returns-in_err-details : goal.returns-in_err-details
+returns-in_err-details c =
     let batch = c.args.self.now in
     let step = c.from_residual in
     subst
@@ -41,7 +41,7 @@ returns-in_err-booked c =
     let step = c.from_residual-in_err-booked in
     subst (ComesTo (about_book says texts))
     (sym (converted step.result (unbooked fault) step.ensures.1))
-    (not_booked c.in_ok-sets.sets texts says fault c.in_err-booked.ensures)
+    (not_booked c.in_ok-details.details texts says fault c.in_err-booked.ensures)
 
 pub returns-in_err-ended : goal.returns-in_err-ended
 returns-in_err-ended c =
@@ -63,8 +63,8 @@ pub returns : goal.returns
 returns c =
     let batch = c.args.self.now in
     let whole =
-    fates_of_whole c.args.texts c.in_ok-sets.sets c.in_ok-booked.booked c.in_ok-booked.ensures
-    batch.files.now c.in_ok-sets.ensures c.in_ok-ended.ended.items c.in_ok-ended.ensures in
+    fates_of_whole c.args.texts c.in_ok-details.details c.in_ok-booked.booked c.in_ok-booked.ensures
+    batch.files.now c.in_ok-details.ensures c.in_ok-ended.ended.items c.in_ok-ended.ensures in
     inr (
       whole.0,
       whole.1,

@@ -1,5 +1,5 @@
 use Rattle.std.proofs.Common.{inr, Ok, sym, ap, ◌∙◌, subst}
-use Rattle.bean_book.specs.declared.account_sets.AccountSets.TheVariants.{LeftOut}
+use Rattle.bean_book.specs.declared.details.Details.TheVariants.{Few}
 use Rattle.bean_book.proofs.LeftOutFacts.{whole_book}
 use Rattle.bq.specs.Due.{ComesTo}
 use Rattle.bq.specs.List.{Listed, Lists}
@@ -16,12 +16,12 @@ returns-in_err-booked c =
     let fault = c.in_err-booked.field-0.0 in
     subst (ComesTo (Lists texts))
     (sym (converted c.from_residual.result (unbooked fault) c.from_residual.ensures.1))
-    (not_booked LeftOut texts Listed fault c.in_err-booked.ensures)
+    (not_booked Few texts Listed fault c.in_err-booked.ensures)
 
 pub returns : goal.returns
 returns c =
     let book = c.in_ok-booked.ensures in
-    let whole = whole_book book.0 c.in_ok-booked.booked book.2 in
+    let whole = whole_book Few book.0 c.in_ok-booked.booked book.2 in
     inr (
       whole.0,
       (book.0, book.1, whole.1),

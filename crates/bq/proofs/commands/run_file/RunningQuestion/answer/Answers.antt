@@ -8,11 +8,11 @@ use Rattle.endings.specs.declared.refusal.Refusal.TheVariants.{OutOfMemory}
 use Rattle.endings.specs.declared.verdict.Verdict.TheVariants.{Fine}
 use Rattle.bq.proofs.Outcomes.{converted, not_booked}
 use Rattle.bq.proofs.Programmed.{file_ran, not_run}
-use Rattle.bq.proofs.SetsFacts.{has_of_whole}
+use Rattle.bq.proofs.DetailsFacts.{has_of_whole}
 use Rattle.bq.proofs.commands.run_file.RunningQuestion.answer.Goals as goal
 
-pub returns-in_err-sets : goal.returns-in_err-sets
-returns-in_err-sets c =
+pub returns-in_err-details : goal.returns-in_err-details
+returns-in_err-details c =
     let step = c.from_residual in
     subst (ComesTo (about_book (FileRan c.args.self.now.file.now) c.args.texts))
     (sym (converted step.result OutOfMemory step.ensures.1)) tt
@@ -25,7 +25,7 @@ returns-in_err-booked c =
     let step = c.from_residual-in_err-booked in
     subst (ComesTo (about_book says texts))
     (sym (converted step.result (unbooked fault) step.ensures.1))
-    (not_booked c.in_ok-sets.sets texts says fault c.in_err-booked.ensures)
+    (not_booked c.in_ok-details.details texts says fault c.in_err-booked.ensures)
 
 pub returns-in_err-text : goal.returns-in_err-text
 returns-in_err-text c =
@@ -33,8 +33,8 @@ returns-in_err-text c =
     let file = c.args.self.now.file.now in
     let fault = c.in_err-text.field-0.0 in
     let whole =
-    has_of_whole texts c.in_ok-sets.sets c.in_ok-booked.booked c.in_ok-booked.ensures file
-    c.in_ok-sets.ensures (Err fault) c.in_err-text.ensures in
+    has_of_whole texts c.in_ok-details.details c.in_ok-booked.booked c.in_ok-booked.ensures file
+    c.in_ok-details.ensures (Err fault) c.in_err-text.ensures in
     subst (ComesTo (about_book (FileRan file) texts))
     (sym (converted c.from_residual-in_err-text.result fault c.from_residual-in_err-text.ensures.1))
     (not_run texts whole.0 whole.1 file fault whole.2)
@@ -44,8 +44,8 @@ returns c =
     let file = c.args.self.now.file.now in
     let text = c.in_ok-text.text in
     let whole =
-    has_of_whole c.args.texts c.in_ok-sets.sets c.in_ok-booked.booked c.in_ok-booked.ensures
-    file c.in_ok-sets.ensures (Ok text) c.in_ok-text.ensures in
+    has_of_whole c.args.texts c.in_ok-details.details c.in_ok-booked.booked c.in_ok-booked.ensures
+    file c.in_ok-details.ensures (Ok text) c.in_ok-text.ensures in
     let says = file_ran whole.0 file text whole.2 in
     inr (
       whole.0,

@@ -1,5 +1,5 @@
 use Rattle.bean_book.proofs.LeftOutFacts.{whole_book}
-use Rattle.bean_book.proofs.laws.only_sets_are_left_out.Goals as goal
+use Rattle.bean_book.proofs.laws.only_details_are_left_out.Goals as goal
 
 pub returns : goal.returns
 returns c = whole_book

@@ -1,11 +1,11 @@
--- From a book without the sets of accounts that nothing asked of it needs, to the book with them.
+-- From a book with as many details as what is asked of it needs, to the book with all.
 use Rattle.std.proofs.Common.{◌≡◌, ℕ, List, [], ◌∷◌, map, refl, ap, ◌∙◌, Result, Ok, Err}
 use Rattle.std.specs.List.{AllByRecursion}
 use Rattle.bean_book.proofs.LeftOutFacts.{whole_book}
-use Rattle.bean_book.specs.LeftOut.{IsSameButAccounts, row_but_accounts}
-use Rattle.bean_book.specs.declared.account_sets.AccountSets.{AccountSets}
-use Rattle.bean_book.specs.declared.account_sets.AccountSets.TheVariants.{Made, LeftOut}
+use Rattle.bean_book.specs.LeftOut.{IsToldOf, row_told}
 use Rattle.bean_book.specs.declared.booked.Booked.{Booked}
+use Rattle.bean_book.specs.declared.details.Details.{Details}
+use Rattle.bean_book.specs.declared.details.Details.TheVariants.{All, ButAccounts, Few}
 use Rattle.bean_books.specs.Booking.{IsBookOf}
 use Rattle.bean_load.specs.Texts.{Texts}
 use Rattle.plain_machine.specs.Unread.{but_accounts, cell_but_accounts}
@@ -23,8 +23,8 @@ use Rattle.query_tables.proofs.UnreadFacts.{outside_alike, texts_alike}
 use Rattle.query_tables.specs.Unread.{AreAlikeButAccounts, FileNeedsNoAccounts, IsSoOfBoth}
 use Rattle.query_terms.specs.declared.column.Column.{Column}
 use Rattle.query_terms.specs.declared.column.Column.TheVariants as column
+use Rattle.bq.specs.Details.{Suffice}
 use Rattle.bq.specs.Ran.{HasTable}
-use Rattle.bq.specs.Sets.{Suffice}
 use Rattle.endings.specs.declared.refusal.Cause.TheVariants as cause
 use Rattle.endings.specs.declared.refusal.Refusal.{Refusal}
 use Rattle.endings.specs.declared.refusal.Refusal.TheVariants.{OutOfMemory, Refused, NotWritten, NotKept}
@@ -32,7 +32,7 @@ use Rattle.endings.specs.declared.refusal.Refusal.TheVariants.{OutOfMemory, Refu
 -- ---- the rows of one are those of the other, but for the accounts
 
 cell_alike : (r : Row) (c : Column)
-    → cell_at (row_but_accounts r) c ≡ cell_but_accounts (row_of r) c
+    → cell_at (row_told ButAccounts r) c ≡ cell_but_accounts (row_of r) c
 cell_alike r column.Date = refl
 cell_alike r column.Year = refl
 cell_alike r column.Month = refl
@@ -64,16 +64,16 @@ with_cells r cell = record {
   transaction_entries = (row_of r).transaction_entries;
 }
 
-row_alike : (r : Row) → row_of (row_but_accounts r) ≡ but_accounts (row_of r)
+row_alike : (r : Row) → row_of (row_told ButAccounts r) ≡ but_accounts (row_of r)
 unfolding with_cells
 row_alike r = ap (with_cells r) (λ i c. cell_alike r c i)
 
 rows_alike : (rs : List Row)
-    → map row_of (map row_but_accounts rs) ≡ map but_accounts (map row_of rs)
+    → map row_of (map (row_told ButAccounts) rs) ≡ map but_accounts (map row_of rs)
 rows_alike [] = refl
 rows_alike (r ∷ rs) = λ i. row_alike r i ∷ rows_alike rs i
 
-ledgers_alike : (bare whole : Booked) → IsSameButAccounts bare whole
+ledgers_alike : (bare whole : Booked) → IsToldOf ButAccounts bare whole
     → AreAlikeButAccounts bare.ledger whole.ledger
 ledgers_alike bare whole same = record {
   rows = ap (map row_of) same.rows ∙ rows_alike whole.ledger.rows;
@@ -84,12 +84,13 @@ ledgers_alike bare whole same = record {
 
 module _ (texts : Texts) (NoneNeeds : Type 0) (IsSo : Ledger → Type 0)
     (law : NoneNeeds → IsSoOfBoth IsSo) where
-  so_of_whole : (sets : AccountSets) → Suffice sets NoneNeeds → (b : Booked)
-      → IsBookOf sets texts b → IsSo b.ledger
-      → (whole : Booked) × IsBookOf Made texts whole × IsSo whole.ledger
-  so_of_whole Made suffice b book is = (b, book, is)
-  so_of_whole LeftOut none b book is =
-      let whole = whole_book book.0 b book.2 in
+  so_of_whole : (details : Details) → Suffice details NoneNeeds → (b : Booked)
+      → IsBookOf details texts b → IsSo b.ledger
+      → (whole : Booked) × IsBookOf All texts whole × IsSo whole.ledger
+  so_of_whole All suffice b book is = (b, book, is)
+  so_of_whole Few suffice b book is = absurd suffice
+  so_of_whole ButAccounts none b book is =
+      let whole = whole_book ButAccounts book.0 b book.2 in
       let alike = ledgers_alike b whole.0 whole.2 in (
         whole.0,
         (book.0, book.1, whole.1),
@@ -112,18 +113,18 @@ has_alike file none (Err (Refused cause.TooManyPostings)) = λ bare l alike.
 has_alike file none (Err (NotWritten n)) = λ bare l alike. ((λ is. is), (λ is. is))
 has_alike file none (Err NotKept) = λ bare l alike. ((λ is. is), (λ is. is))
 
-module _ (texts : Texts) (sets : AccountSets) (b : Booked) (book : IsBookOf sets texts b) where
-  pub has_of_whole : (file : List ℕ) → Suffice sets (FileNeedsNoAccounts file)
+module _ (texts : Texts) (details : Details) (b : Booked) (book : IsBookOf details texts b) where
+  pub has_of_whole : (file : List ℕ) → Suffice details (FileNeedsNoAccounts file)
       → (r : Result (List ℕ) Refusal) → HasTable file b.ledger r
-      → (whole : Booked) × IsBookOf Made texts whole × HasTable file whole.ledger r
+      → (whole : Booked) × IsBookOf All texts whole × HasTable file whole.ledger r
   has_of_whole file suffice r has =
       so_of_whole texts (FileNeedsNoAccounts file) (λ l. HasTable file l r)
-      (λ none. has_alike file none r) sets suffice b book has
+      (λ none. has_alike file none r) details suffice b book has
 
   pub fates_of_whole : (files : List (List ℕ))
-      → Suffice sets (AllByRecursion FileNeedsNoAccounts files) → (fates : List Fate)
+      → Suffice details (AllByRecursion FileNeedsNoAccounts files) → (fates : List Fate)
       → AreFatesOf b.ledger files fates
-      → (whole : Booked) × IsBookOf Made texts whole × AreFatesOf whole.ledger files fates
+      → (whole : Booked) × IsBookOf All texts whole × AreFatesOf whole.ledger files fates
   fates_of_whole files suffice fates are =
       so_of_whole texts (AllByRecursion FileNeedsNoAccounts files) (λ l. AreFatesOf l files fates)
-      (λ none. files_alike files none fates) sets suffice b book are
+      (λ none. files_alike files none fates) details suffice b book are
