@@ -1,5 +1,5 @@
 -- Whether as much is told of a book as is asked for.
-use Rattle.std.specs.Prelude.{⊤, ⊥}
+use Rattle.std.specs.Prelude.{⊤}
 use Rattle.bean_book.specs.declared.details.Details.{Details}
 use Rattle.bean_book.specs.declared.details.Details.TheVariants.{All, ButAccounts, Few}
 
