@@ -7,6 +7,7 @@ pub mod DayFacts
 pub mod CurrencyFacts
 pub mod RootFacts
 pub mod NameFacts
+pub mod NoKeysFacts
 pub mod WordFacts
 pub mod CapitalFacts
 pub mod CodeFacts

@@ -336,14 +336,10 @@ no_sign_past bs n hash more s =
     λ m low high. no_long_sign s bs m (no_doubled_hash bs hash) (omega arith) high
 
 -- behind the bytes of a key stands no colon
-pub no_colon_behind : (bs : List ℕ) (e : ℕ) → e ≡ 0 + prefix_len is_in_key (drop 0 bs)
-    → has_colon bs e ≡ false → prefix_len is_in_key bs < length bs
-    → get_or bs (prefix_len is_in_key bs) 0 ≢ 58
-no_colon_behind bs e is none low = λ colon.
-    let same : e ≡ prefix_len is_in_key bs = omega arith in
-    let at : get_or bs e 0 ≡ 58 = ap (λ k. get_or bs k 0) same ∙ colon in
-    let low_e : e < length bs = omega arith in
-    let t : has_colon bs e ≡ true = grind (arith, nat_tests) in
+pub no_colon_at_end : (bs : List ℕ) → has_colon bs (prefix_len is_in_key bs) ≡ false
+    → prefix_len is_in_key bs < length bs → get_or bs (prefix_len is_in_key bs) 0 ≢ 58
+no_colon_at_end bs none low = λ colon.
+    let t : has_colon bs (prefix_len is_in_key bs) ≡ true = grind (arith, nat_tests) in
     absurd (cc)
 
 pub key_at : (bs : List ℕ) (e : ℕ) → is_ascii_lowercase (get_or bs 0 0) ≡ true

@@ -4,6 +4,7 @@ pub mod Gap
 pub mod InGap
 pub mod Between
 pub mod Lookahead
+pub mod NoKeys
 pub mod Tokens
 pub mod OneListOfTokens
 pub mod ToCome

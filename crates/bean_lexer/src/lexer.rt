@@ -1,6 +1,7 @@
 //! One token of a text after the other. What reads a token is put in place where tokens are asked for,
 //! since a call for each would hand over its answer in memory.
 ghost use Rattle.std.specs.Prelude.{◌≡◌, ◌-◌, ◌<◌, ◌≤◌, length, drop};
+ghost use Rattle.bean_lexer.specs.NoKeys.{NoKeys};
 ghost use Rattle.bean_lexer.specs.Tokens.{line_at};
 
 use crate::gaps::{Spot, gap_at};
@@ -17,9 +18,13 @@ pub struct Lexer<'a> {
     pub rest: &'a str,
     /// The line on which the rest begins, from 1.
     pub line: usize,
+    /// How much of the text was left where the last word ended that no colon follows: no key begins
+    /// before that.
+    pub keyless: usize,
     ghost inside: { length rest.now ≤ length text.now },
     ghost is_rest: { rest.now ≡ drop (length text.now - length rest.now) text.now },
     ghost is_line: { line ≡ line_at text.now (length text.now - length rest.now) },
+    ghost no_keys: { NoKeys rest.now keyless },
 }
 
 impl<'a> Lexer<'a> {
@@ -37,6 +42,7 @@ impl<'a> Lexer<'a> {
             text,
             rest: text,
             line: 1,
+            keyless: text.len(),
         }
     }
 
@@ -53,7 +59,8 @@ impl<'a> Lexer<'a> {
         if behind.is_empty() {
             return None;
         }
-        let found = token_at(behind.as_bytes());
+        let mut keyless = self.keyless;
+        let found = token_at(behind.as_bytes(), &mut keyless);
         let (text, rest) = behind.split_at(found.len);
         let token = Token {
             kind: found.kind,
@@ -66,6 +73,7 @@ impl<'a> Lexer<'a> {
             text: self.text,
             rest,
             line: token.line + found.line_feeds,
+            keyless,
         };
         Some(token)
     }

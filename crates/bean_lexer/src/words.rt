@@ -1,14 +1,15 @@
 //! Keys, words and signs, and characters that begin no token.
 ghost use Rattle.std.specs.Prelude.{◌≡◌, ◌<◌, ◌≤◌, ◌∷◌, [], ◌+◌, if◌then◌else◌, drop, length};
-ghost use Rattle.std.specs.Prelude.{slice_index, IsTrue};
+ghost use Rattle.std.specs.Prelude.{slice_index, IsTrue, false};
 ghost use Rattle.std.specs.List.{prefix_len};
 ghost use Rattle.std.specs.Option.{IfSome};
 ghost use Rattle.std.specs.Char.{is_ascii_lowercase};
 ghost use Rattle.std.specs.Str.{IsUtf8, IsCharBoundary};
 ghost use Rattle.bean_base.specs.Character.{is_ascii};
-ghost use Rattle.bean_lexer.specs.TokenForm.{sign_spelling};
+ghost use Rattle.bean_lexer.specs.TokenForm.{is_in_key, sign_spelling};
 ghost use Rattle.bean_lexer.specs.Lookahead.{begins_other};
 ghost use Rattle.bean_lexer.specs.Lookahead as spec;
+ghost use Rattle.bean_lexer.specs.NoKeys.{NoKeys};
 ghost use Rattle.bean_lexer.specs.Tokens.{IsToken, goes_on_character};
 
 use crate::classes::{GoesOnCharacter, InKey};
@@ -16,21 +17,39 @@ use crate::found::Found;
 use crate::kind::{Keyword, Kind, Sign, WORDS};
 use byte_runs::{end_of_run, has_front};
 
-/// The key or the word that begins with a small letter, or a fault.
+/// The key or the word that begins with a small letter, or a fault. Where more bytes are left than
+/// `keyless` no key begins, so that a run of very many letters is looked through once.
 #[inline(always)]
-pub fn key_or_keyword(bytes: &[u8]) -> Found
+pub fn key_or_keyword(bytes: &[u8], keyless: &mut usize) -> Found
     requires some { 0 < length bytes.now }
     requires small { IsTrue (is_ascii_lowercase (slice_index bytes.now 0)) }
+    requires no_keys { NoKeys bytes.now keyless.now }
+    ensures token { IsToken bytes.now result.kind result.len }
+    ensures boundary { IsUtf8 bytes.now → IsCharBoundary bytes.now result.len }
+    ensures no_keys { NoKeys bytes.now keyless.new }
+{
+    if bytes.len() <= *keyless {
+        let end = end_of_run::<InKey>(bytes, 0);
+        if has_colon(bytes, end) {
+            return Found {
+                kind: Kind::Key,
+                len: end + 1,
+            };
+        }
+        *keyless = bytes.len() - end;
+    }
+    keyword_or_fault(bytes)
+}
+
+/// The word that begins with a small letter where no key stands, or a fault.
+#[inline(always)]
+fn keyword_or_fault(bytes: &[u8]) -> Found
+    requires some { 0 < length bytes.now }
+    requires small { IsTrue (is_ascii_lowercase (slice_index bytes.now 0)) }
+    requires no_key { spec.has_colon bytes.now (prefix_len is_in_key bytes.now) ≡ false }
     ensures token { IsToken bytes.now result.kind result.len }
     ensures boundary { IsUtf8 bytes.now → IsCharBoundary bytes.now result.len }
 {
-    let end = end_of_run::<InKey>(bytes, 0);
-    if has_colon(bytes, end) {
-        return Found {
-            kind: Kind::Key,
-            len: end + 1,
-        };
-    }
     match keyword_at(bytes) {
         Some(word) => Found {
             kind: Kind::Keyword(word),

@@ -2,6 +2,7 @@
 ghost use Rattle.std.specs.Prelude.{◌≡◌, ◌-◌, ◌<◌, ◌∷◌, List, MatchOption, IfSome, IsTrue, false, length, drop};
 ghost use Rattle.bean_lexer.specs.Gap.{spot_at};
 ghost use Rattle.bean_lexer.specs.InGap.{IsLead};
+ghost use Rattle.bean_lexer.specs.NoKeys.{NoKeys};
 ghost use Rattle.bean_lexer.specs.ToCome.{ToCome, EndsLines, is_column_one};
 ghost use Rattle.bean_lexer.specs.declared.kind.Kind.TheVariants as kinds;
 ghost use Rattle.bean_lexer.specs.declared.kind.Place.TheVariants as places;
@@ -38,12 +39,19 @@ fn place(lexer: &Lexer<'_>) -> usize
 
 /// Takes the token that was found behind a gap.
 #[inline(always)]
-fn take<'a>(lexer: &mut Lexer<'a>, gap: Lead, behind: &'a str, found: Counted) -> Token<'a>
+fn take<'a>(
+    lexer: &mut Lexer<'a>,
+    gap: Lead,
+    behind: &'a str,
+    found: Counted,
+    keyless: usize,
+) -> Token<'a>
     requires gap { IsLead (spot_at (length lexer.now.text.now - length lexer.now.rest.now))
         lexer.now.rest.now gap }
     requires behind { behind.now ≡ drop gap.len lexer.now.rest.now }
     requires some { 0 < length behind.now }
     requires found { IsCounted behind.now found }
+    requires no_keys { NoKeys behind.now keyless }
     ensures tokens { (ts : List Token) → ToCome lexer.new ts → ToCome lexer.old (result ∷ ts) }
     ensures kind { result.kind ≡ found.kind }
     ensures place { result.place ≡ gap.place }
@@ -61,6 +69,7 @@ fn take<'a>(lexer: &mut Lexer<'a>, gap: Lead, behind: &'a str, found: Counted) -
         text: lexer.text,
         rest,
         line: token.line + found.line_feeds,
+        keyless,
     };
     token
 }
@@ -90,8 +99,9 @@ pub fn next_past_column_one<'a>(lexer: &mut Lexer<'a>) -> Option<Token<'a>>
     if behind.is_empty() {
         return None;
     }
-    let found = token_at(behind.as_bytes());
-    Some(take(lexer, gap, behind, found))
+    let mut keyless = lexer.keyless;
+    let found = token_at(behind.as_bytes(), &mut keyless);
+    Some(take(lexer, gap, behind, found, keyless))
 }
 
 /// Whether the next token stands in the first column, or there are no more.
@@ -114,7 +124,7 @@ pub fn next_day<'a>(lexer: &mut Lexer<'a>) -> Option<Token<'a>>
     let gap = gap(lexer);
     let behind = behind(place(lexer), lexer.rest, gap);
     let found = expected_day(behind.as_bytes())?;
-    Some(take(lexer, gap, behind, found))
+    Some(take(lexer, gap, behind, found, lexer.keyless))
 }
 
 /// The gap up to a token of the same line, if spaces alone stand before it.
@@ -141,8 +151,9 @@ pub fn next_inside<'a>(lexer: &mut Lexer<'a>) -> Option<Token<'a>>
 {
     let gap = spaces(lexer)?;
     let behind = behind(place(lexer), lexer.rest, gap);
-    let found = token_at(behind.as_bytes());
-    Some(take(lexer, gap, behind, found))
+    let mut keyless = lexer.keyless;
+    let found = token_at(behind.as_bytes(), &mut keyless);
+    Some(take(lexer, gap, behind, found, keyless))
 }
 
 /// The next token, if it is an account that begins the next line behind spaces alone.
@@ -160,7 +171,7 @@ pub fn next_account<'a>(lexer: &mut Lexer<'a>) -> Option<Token<'a>>
     let gap = indent_at(lexer.rest.as_bytes())?;
     let behind = behind(place(lexer), lexer.rest, gap);
     let found = expected_account(behind.as_bytes())?;
-    Some(take(lexer, gap, behind, found))
+    Some(take(lexer, gap, behind, found, lexer.keyless))
 }
 
 /// The next token, if it is a minus in the same line behind spaces alone.
@@ -175,7 +186,7 @@ pub fn next_minus<'a>(lexer: &mut Lexer<'a>) -> Option<Token<'a>>
     let gap = spaces(lexer)?;
     let behind = behind(place(lexer), lexer.rest, gap);
     let found = expected_minus(behind.as_bytes())?;
-    Some(take(lexer, gap, behind, found))
+    Some(take(lexer, gap, behind, found, lexer.keyless))
 }
 
 /// The next token, if it is a number in the same line behind spaces alone.
@@ -190,7 +201,7 @@ pub fn next_number<'a>(lexer: &mut Lexer<'a>) -> Option<Token<'a>>
     let gap = spaces(lexer)?;
     let behind = behind(place(lexer), lexer.rest, gap);
     let found = expected_number(behind.as_bytes())?;
-    Some(take(lexer, gap, behind, found))
+    Some(take(lexer, gap, behind, found, lexer.keyless))
 }
 
 /// The next token, if it is a currency in the same line behind spaces alone.
@@ -205,5 +216,5 @@ pub fn next_currency<'a>(lexer: &mut Lexer<'a>) -> Option<Token<'a>>
     let gap = spaces(lexer)?;
     let behind = behind(place(lexer), lexer.rest, gap);
     let found = expected_currency(behind.as_bytes())?;
-    Some(take(lexer, gap, behind, found))
+    Some(take(lexer, gap, behind, found, lexer.keyless))
 }

@@ -1,6 +1,8 @@
-use Rattle.std.proofs.Common.{arith, sym, ap, ◌∙◌, refl}
+use Rattle.std.proofs.Common.{arith, sym, ap, ◌∙◌, refl, subst}
 use Rattle.std.specs.List.{count_by}
 use Rattle.bean_lexer.specs.Gap.{is_line_feed}
+use Rattle.bean_lexer.specs.NoKeys.{NoKeys}
+use Rattle.bean_lexer.proofs.NoKeysFacts.{no_keys_behind}
 use Rattle.bean_lexer.proofs.TokensFacts.{IsAt, Parts, Feeds, is_behind, token_to_come}
 use Rattle.expected_tokens.proofs.taking.take.Goals as goal
 
@@ -30,7 +32,13 @@ invariant_of-lexer c =
     let next =
     is_behind lexer.text.now lexer.rest.now lexer.line _ _ _ c.args.behind.now
     c.split_at.result.0.now _ c.split_at.result.1.now at parts count in
-    record { inside = next.inside; is_rest = next.is_rest; is_line = next.is_line }
+    record {
+      inside = next.inside;
+      is_rest = next.is_rest;
+      is_line = next.is_line;
+      no_keys = subst (λ l. NoKeys l c.args.keyless) (sym parts.after_is)
+          (no_keys_behind c.args.behind.now c.args.found.len c.args.keyless c.requires.no_keys);
+    }
 
 pub returns-clause-tokens : goal.returns-clause-tokens
 returns-clause-tokens c =

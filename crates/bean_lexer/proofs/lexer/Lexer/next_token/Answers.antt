@@ -5,8 +5,10 @@ use Rattle.std.specs.List.{count_by}
 use Rattle.std.specs.Str.{IsCharBoundary}
 use Rattle.std.proofs.lemmas.Str.{IsCharBoundary-start}
 use Rattle.bean_lexer.specs.Gap.{is_line_feed, gap_len, behind_gap, place_of}
+use Rattle.bean_lexer.specs.NoKeys.{NoKeys}
 use Rattle.bean_lexer.specs.Tokens.{IsToken}
 use Rattle.bean_lexer.proofs.BoundaryFacts.{gap_boundary}
+use Rattle.bean_lexer.proofs.NoKeysFacts.{no_keys_behind}
 use Rattle.bean_lexer.proofs.TokensFacts.{IsAt, Parts, Feeds, is_behind, token_to_come}
 use Rattle.bean_lexer.proofs.lexer.Lexer.next_token.Goals as goal
 
@@ -53,7 +55,14 @@ invariant_of-self c =
     let next =
     is_behind lexer.text.now lexer.rest.now lexer.line _ _ _ c.split_at.result.1.now
     c.split_at-2.result.0.now _ c.split_at-2.result.1.now at parts count in
-    record { inside = next.inside; is_rest = next.is_rest; is_line = next.is_line }
+    record {
+      inside = next.inside;
+      is_rest = next.is_rest;
+      is_line = next.is_line;
+      no_keys = subst (λ l. NoKeys l c.token_at-found.new.keyless) (sym parts.after_is)
+          (no_keys_behind c.split_at.result.1.now c.token_at-found.result.len _
+          (subst (λ l. NoKeys l c.token_at-found.new.keyless) same c.token_at-found.ensures.no_keys));
+    }
 
 pub returns-clause-tokens : goal.returns-clause-tokens
 returns-clause-tokens c =
