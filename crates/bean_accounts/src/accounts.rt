@@ -1,5 +1,5 @@
 //! Accounts, as far as opens and closes came.
-ghost use Rattle.std.specs.Prelude.{◌≡◌, ◌∷◌, ◌++◌, [], IfSome, OnOk, None, if◌then◌else◌, not};
+ghost use Rattle.std.specs.Prelude.{◌≡◌, ◌∷◌, ◌++◌, [], IfSome, OnOk, None, if◌then◌else◌, not, true};
 ghost use Rattle.std.specs.Prelude as prelude;
 ghost use Rattle.std.specs.Str.{bytes_eq};
 ghost use Rattle.std.specs.Option.{option_map};
@@ -33,17 +33,21 @@ fn note_if(
     Ok(())
 }
 
-/// Adds the faults of a posting on an account of which this is known: F7, F8.
+/// Adds the faults of a posting on an account of which this is known, if they are asked for: F7, F8.
 fn note_life(
     life: &Life<'_>,
     currency: &Currency<'_>,
     at: Place,
+    asked: bool,
     faults: &mut Vec<Fault>,
 ) -> Result<(), AllocError>
-    ensures { OnOk result (faults.new.items ≡ faults.old.items
+    ensures { asked ≡ true → OnOk result (faults.new.items ≡ faults.old.items
         ++ faults_at at (spec.kind_if life.now.is_closed FaultKind.AccountClosed
         ++ spec.kind_if (not (lives.allows life.now currency.now)) FaultKind.CurrencyNotAllowed)) }
 {
+    if !asked {
+        return Ok(());
+    }
     note_if(life.is_closed, FaultKind::AccountClosed, at, faults)?;
     note_if(
         !life.allows(currency),
@@ -145,25 +149,26 @@ impl<'a> Accounts<'a> {
         account: &mut Account<'a>,
         currency: &Currency<'_>,
         at: Place,
+        asked: bool,
         faults: &mut Vec<Fault>,
     ) -> Result<usize, AllocError>
         ensures account { account.new ≡ account.old }
         ensures lives { self.new.lives ≡ self.old.lives }
-        ensures faults { (past : prelude.List Step) → IsKept past self.old
+        ensures faults { (past : prelude.List Step) → IsKept past self.old → asked ≡ true
             → OnOk result (faults.new.items ≡ faults.old.items
             ++ faults_at at (spec.of_posting account.old currency.now past)) }
     {
         let Some((place, opened, life)) = self.lives.get_full(&*account) else {
-            note_if(true, FaultKind::AccountNotOpen, at, faults)?;
+            note_if(asked, FaultKind::AccountNotOpen, at, faults)?;
             return Ok(0);
         };
-        note_life(life, currency, at, faults)?;
+        note_life(life, currency, at, asked, faults)?;
         self.hints.note(account.text(), place);
         *account = opened.lend();
         Ok(place)
     }
 
-    /// Adds the faults of a posting: F6, F7, F8. Where its account was opened, the name becomes the
+    /// Adds the faults of a posting, if they are asked for: F6, F7, F8. Where its account was opened, the name becomes the
     /// one that the open wrote: these are the same bytes, which all postings on the account lend
     /// from one place then. It gives a number at which what else is kept of the account may be
     /// looked for first: nothing rests on it, and no clause says what it is.
@@ -172,19 +177,20 @@ impl<'a> Accounts<'a> {
         account: &mut Account<'a>,
         currency: &Currency<'_>,
         at: Place,
+        asked: bool,
         faults: &mut Vec<Fault>,
     ) -> Result<usize, AllocError>
         ensures account { account.new ≡ account.old }
         ensures kept { (past : prelude.List Step) → IsKept past self.old → IsKept past self.new }
-        ensures faults { (past : prelude.List Step) → IsKept past self.old
+        ensures faults { (past : prelude.List Step) → IsKept past self.old → asked ≡ true
             → OnOk result (faults.new.items ≡ faults.old.items
             ++ faults_at at (spec.of_posting account.old currency.now past)) }
     {
         let place = self.hints.place_for(account.text());
         let Some((opened, life)) = self.opened_at(place, account) else {
-            return self.note_elsewhere(account, currency, at, faults);
+            return self.note_elsewhere(account, currency, at, asked, faults);
         };
-        note_life(life, currency, at, faults)?;
+        note_life(life, currency, at, asked, faults)?;
         *account = opened.lend();
         Ok(place)
     }

@@ -5,9 +5,9 @@
 //! // 2014-03-01 close Assets:Cash
 //! let mut accounts = Accounts::new(alloc);
 //! accounts.open(alloc, &cash, &[usd])?;
-//! accounts.note_posting(&mut cash, &eur, at, &mut faults)?; // F8
+//! accounts.note_posting(&mut cash, &eur, at, true, &mut faults)?; // F8
 //! accounts.close(&cash);
-//! accounts.note_posting(&mut cash, &usd, at, &mut faults)?; // F7
+//! accounts.note_posting(&mut cash, &usd, at, true, &mut faults)?; // F7
 //! ```
 //!
 //! [`Accounts`] are told of opens and closes one after the other. The first open of an account

@@ -23,7 +23,7 @@ use Rattle.bean_book.specs.Details.{told}
 use Rattle.bean_book.specs.LeftOut.{IsToldOf, entry_told, row_told}
 use Rattle.bean_book.specs.Rows.{entry_of, items_in, padding_entry, padding_row, row_by, row_of}
 use Rattle.bean_book.specs.Rows.{rows_by, rows_of, rows_of_note, rows_of_pad}
-use Rattle.bean_book.specs.declared.booked.Booked.{Booked}
+use Rattle.bean_book.specs.Book.{Book}
 use Rattle.bean_book.specs.declared.details.Details.{Details}
 use Rattle.bean_book.specs.declared.details.Details.TheVariants.{All, ButAccounts, Few}
 
@@ -136,14 +136,14 @@ as_many_padded details qs =
 
 -- the book with all details, of one with few
 
-with_all : Booked → List Booking → Booked
+with_all : Book → List Booking → Book
 with_all bare bs = record {
   ledger = record { rows = rows_of_all All bs; decimals = bare.ledger.decimals };
   faults = bare.faults;
 }
 
-pub whole_book : (details : Details) (l : Loaded) (bare : Booked) → IsBookOf details l bare
-    → (whole : Booked) × IsBookOf All l whole × IsToldOf details bare whole
+pub whole_book : (details : Details) (l : Loaded) (bare : Book) → IsBookOf details l bare
+    → (whole : Book) × IsBookOf All l whole × IsToldOf details bare whole
 unfolding with_all
 whole_book details l bare h =
     let bs = bookings_of h.stand in (

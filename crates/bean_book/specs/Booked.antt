@@ -18,7 +18,7 @@ use Rattle.limits.specs.declared.counts.TheConstants.{MOST_POSTINGS}
 use Rattle.posting_table.specs.declared.row.Row.{Row}
 use Rattle.bean_book.specs.Reported.{reported}
 use Rattle.bean_book.specs.Rows.{rows_of, written_of}
-use Rattle.bean_book.specs.declared.booked.Booked as declared
+use Rattle.bean_book.specs.Book.{Book}
 use Rattle.bean_book.specs.declared.details.Details.{Details}
 use Rattle.bean_book.specs.declared.details.Details.TheVariants.{All}
 
@@ -62,7 +62,7 @@ MakesLedger details bs (Err (Refused TooManyPostings)) = AreTooMany bs
 MakesLedger details bs (Err OutOfMemory) = ⊤
 
 -- The ledger of what is booked, and all faults.
-pub record IsBookOf (details : Details) (l : Loaded) (b : declared.Booked) : Type 0 where
+pub record IsBookOf (details : Details) (l : Loaded) (b : Book) : Type 0 where
   pub stand : Stand
   pub leads : LeadsTo (method_in_ledger l) (reverse l.directives) stand
   pub ledger : IsLedgerOf details (bookings_of stand) b.ledger
@@ -74,8 +74,9 @@ HasTooMany l =
     (st : Stand) → LeadsTo (method_in_ledger l) (reverse l.directives) st
     → AreTooMany (bookings_of st)
 
--- what is booked of a loaded ledger, with so much told, or B1 exactly where it has too many postings
-abbrev pub Books : Details → Loaded → Result declared.Booked (Refusal BookCause) → Type 0
-Books details l (Ok b) = IsBookOf details l b
+-- the ledger in the book of a loaded one, with so much told, or B1 exactly where it has too many
+-- postings
+abbrev pub Books : Details → Loaded → Result tables.Ledger (Refusal BookCause) → Type 0
+Books details l (Ok ledger) = (b : Book) × IsBookOf details l b × (ledger ≡ b.ledger)
 Books details l (Err (Refused TooManyPostings)) = HasTooMany l
 Books details l (Err OutOfMemory) = ⊤

@@ -1,13 +1,13 @@
 -- What is booked with few details, beside what is booked with all of them.
-use Rattle.std.specs.Prelude.{◌≡◌, map, Ok, Err}
+use Rattle.std.specs.Prelude.{◌≡◌, map, Err}
 use Rattle.bean_replay.specs.declared.cause.BookCause.{BookCause}
 use Rattle.refusals.specs.declared.refusal.Refusal.{Refusal}
 use Rattle.bean_loaded.specs.Loaded.{Loaded}
 use Rattle.posting_entries.specs.declared.entry.EntryParts.{EntryParts}
 use Rattle.posting_table.specs.declared.row.Row.{Row}
-use Rattle.bean_book.specs.Booked.{Books}
+use Rattle.bean_book.specs.Booked.{Books, IsBookOf}
 use Rattle.bean_book.specs.Details.{accounts_told, told}
-use Rattle.bean_book.specs.declared.booked.Booked.{Booked}
+use Rattle.bean_book.specs.Book.{Book}
 use Rattle.bean_book.specs.declared.details.Details.{Details}
 use Rattle.bean_book.specs.declared.details.Details.TheVariants.{All}
 
@@ -38,7 +38,7 @@ row_told details r = record {
 }
 
 -- one has what is told of the postings of the other, and the same decimals and faults
-pub record IsToldOf (details : Details) (bare whole : Booked) : Type 0 where
+pub record IsToldOf (details : Details) (bare whole : Book) : Type 0 where
   pub rows : bare.ledger.rows ≡ map (row_told details) whole.ledger.rows
   pub decimals : bare.ledger.decimals ≡ whole.ledger.decimals
   pub faults : bare.faults ≡ whole.faults
@@ -46,8 +46,8 @@ pub record IsToldOf (details : Details) (bare whole : Booked) : Type 0 where
 -- what is booked with so much told is what is booked with all told, but for what isn't
 abbrev pub OnlyDetailsAreLeftOut : Type 0
 OnlyDetailsAreLeftOut =
-    (details : Details) (l : Loaded) (bare : Booked) → Books details l (Ok bare)
-    → (whole : Booked) × Books All l (Ok whole) × IsToldOf details bare whole
+    (details : Details) (l : Loaded) (bare : Book) → IsBookOf details l bare
+    → (whole : Book) × IsBookOf All l whole × IsToldOf details bare whole
 
 -- and nothing is refused with some details that isn't with any others
 abbrev pub DetailsRefuseNothing : Type 0

@@ -4,6 +4,7 @@ pub mod Plain
 pub mod Rows
 pub mod Reported
 pub mod Tame
+pub mod Book
 pub mod Booked
 pub mod Taken
 pub mod Found

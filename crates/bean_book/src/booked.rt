@@ -1,4 +1,4 @@
-//! A loaded ledger as it is booked.
+//! A loaded ledger as it is booked, and its faults.
 ghost use Rattle.bean_book.specs.Booked.{Books};
 ghost use Rattle.bean_book.specs.Found.{FindsFaults};
 ghost use Rattle.bean_book.specs.Taken.{as_rows};
@@ -6,6 +6,7 @@ ghost use Rattle.bean_loaded.specs.Loaded as loading;
 ghost use Rattle.bean_replay.specs.Booked.{IsBooked};
 ghost use Rattle.bean_replay.specs.Small.{IsSmallNoted};
 ghost use Rattle.std.specs.List.{AllByRecursion};
+ghost use Rattle.std.specs.Prelude.{false};
 
 use crate::counts::{RowCount, count_pads};
 use crate::details::Details;
@@ -19,35 +20,17 @@ use posting_table::Ledger;
 use refusals::Refusal;
 use std::alloc::Global;
 
-/// A booked ledger.
-#[derive(Drop)]
-pub struct Booked<'a> {
-    /// Its postings, and how many decimals its currencies show.
-    pub ledger: Ledger<'a>,
-    /// All that is wrong, by file, then by line, then by number; equal ones once.
-    pub faults: List<Fault>,
-}
-
-/// The book, once all directives are taken and their rows stand with so much told.
+/// The ledger, once all directives are taken and their rows stand with so much told.
 fn finish<'a>(
     details: Details,
     booked: bean_replay::Booked<'a, LedgerRows<'a>>,
-) -> Result<Booked<'a>, Refusal<BookCause>>
-    requires booked { (l : loading.Loaded) × IsBooked (as_rows details) l booked }
+) -> Result<Ledger<'a>, Refusal<BookCause>>
+    requires booked { (l : loading.Loaded) × IsBooked (as_rows details) false l booked }
     requires small { AllByRecursion IsSmallNoted booked.pads }
-    ensures { (l : loading.Loaded) → IsBooked (as_rows details) l booked.entry
+    ensures { (l : loading.Loaded) → IsBooked (as_rows details) false l booked.entry
         → Books details l result }
 {
-    let ledger = match with_pads(details, booked.bookings, booked.pads.into_vec()) {
-        Ok(ledger) => ledger,
-        Err(fault) => return Err(fault),
-    };
-    let mut faults = booked.faults.into_vec();
-    report(&mut faults)?;
-    Ok(Booked {
-        ledger,
-        faults: List::new(faults),
-    })
+    with_pads(details, booked.bookings, booked.pads.into_vec())
 }
 
 /// A loaded ledger as it is booked, with so much told as the type of the level tells.
@@ -55,12 +38,12 @@ fn book_at<'a, L: Level + 'a>(
     alloc: Global,
     loaded: Loaded<'a>,
     level: L,
-) -> Result<Booked<'a>, Refusal<BookCause>>
+) -> Result<Ledger<'a>, Refusal<BookCause>>
     ensures { Books L.level loaded.entry result }
 {
     let details = level.details();
     let rows = LedgerRows::new(alloc)?;
-    let booked = match book_directives(alloc, loaded, ToldRows { rows, level }) {
+    let booked = match book_directives(alloc, loaded, false, ToldRows { rows, level }) {
         Ok(booked) => booked,
         Err(fault) => return Err(fault),
     };
@@ -73,12 +56,14 @@ fn book_at<'a, L: Level + 'a>(
     finish(details, booked)
 }
 
-/// A loaded ledger as it is booked, with so much told of its transactions and postings.
+/// The postings that a loaded ledger is booked as, with so much told of them and their transactions,
+/// and how many decimals its currencies show. No fault changes any of it, so none that tells of what
+/// is kept is looked for: [`find_faults`] finds them.
 pub fn book<'a>(
     alloc: Global,
     loaded: Loaded<'a>,
     details: Details,
-) -> Result<Booked<'a>, Refusal<BookCause>>
+) -> Result<Ledger<'a>, Refusal<BookCause>>
     ensures { Books details loaded.entry result }
 {
     match details {
@@ -88,11 +73,12 @@ pub fn book<'a>(
     }
 }
 
-/// The faults of a loaded ledger as it is booked: those that [`book`] gives, without the postings.
+/// All that is wrong with a loaded ledger as it is booked, by file, then by line, then by number; equal
+/// ones once.
 pub fn find_faults(alloc: Global, loaded: Loaded<'_>) -> Result<List<Fault>, Refusal<BookCause>>
     ensures { FindsFaults loaded.entry result }
 {
-    let booked = match book_directives(alloc, loaded, RowCount { count: 0 }) {
+    let booked = match book_directives(alloc, loaded, true, RowCount { count: 0 }) {
         Ok(booked) => booked,
         Err(fault) => return Err(fault),
     };

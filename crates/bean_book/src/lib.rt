@@ -49,6 +49,6 @@ mod paddings;
 mod rows;
 
 pub use bean_replay::BookCause;
-pub use booked::{Booked, book, find_faults};
+pub use booked::{book, find_faults};
 pub use details::Details;
 pub use laws::{details_refuse_nothing, one_book, only_details_are_left_out};

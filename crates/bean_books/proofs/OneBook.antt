@@ -7,7 +7,7 @@ use Rattle.bean_book.specs.Booked as booked
 use Rattle.bean_book.specs.Booked.{decimals_from, rows_of_all, written_in_all}
 use Rattle.bean_book.specs.OneBook.{AreAlike}
 use Rattle.bean_book.specs.Reported.{reported}
-use Rattle.bean_book.specs.declared.booked.Booked.{Booked}
+use Rattle.bean_book.specs.Book.{Book}
 use Rattle.bean_book.specs.declared.details.Details.{Details}
 use Rattle.bean_book.specs.declared.details.Details.TheVariants.{All}
 use Rattle.bean_book.proofs.LeftOutFacts.{as_many_rows}
@@ -22,12 +22,13 @@ use Rattle.bean_loaded.specs.Loaded.{Loaded}
 use Rattle.bean_load.specs.Texts.{Texts}
 use Rattle.bean_load.proofs.OneLoading.{one_loading}
 use Rattle.limits.specs.declared.counts.TheConstants.{MOST_POSTINGS}
-use Rattle.bean_books.specs.Booking.{FindsFaults, HasTooMany, IsBookOf}
+use Rattle.posting_table.specs.Ledger.{Ledger}
+use Rattle.bean_books.specs.Booking.{Books, FindsFaults, HasTooMany, IsBookOf}
 
 too_many : (most n m : ℕ) → n ≤ most → n ≡ m → most < m → ⊥
 too_many most n m few same many = absurd (omega (arith, few, same, many))
 
-pub not_too_many : (details : Details) (texts : Texts) (b : Booked) → IsBookOf details texts b
+pub not_too_many : (details : Details) (texts : Texts) (b : Book) → IsBookOf details texts b
     → ¬ HasTooMany texts
 not_too_many details texts b is many =
     let l = is.0 in
@@ -38,7 +39,7 @@ not_too_many details texts b is many =
     too_many MOST_POSTINGS (length b.ledger.rows) (length (rows_of_all All bs)) book.ledger.few
     (ap length book.ledger.rows ∙ as_many_rows details bs) (more book.stand book.leads)
 
-alike : (details : Details) (l : Loaded) (a b : Booked) → booked.IsBookOf details l a
+alike : (details : Details) (l : Loaded) (a b : Book) → booked.IsBookOf details l a
     → booked.IsBookOf details l b → AreAlike a b
 alike details l a b h g =
     let same =
@@ -51,7 +52,7 @@ alike details l a b h g =
       faults = h.faults ∙ ap (λ st. reported (faults_of l st)) same ∙ sym g.faults;
     }
 
-pub one_book : (details : Details) (texts : Texts) (a b : Booked) → IsBookOf details texts a
+pub one_book : (details : Details) (texts : Texts) (a b : Book) → IsBookOf details texts a
     → IsBookOf details texts b → AreAlike a b
 one_book details texts a b h g =
     alike details h.0 a b h.2
@@ -63,3 +64,10 @@ pub found_in : (texts : Texts) (l : Loaded) → IsLoaded texts l
 found_in texts l is (Ok faults) h = (h.0, (l, is, h.1), h.2)
 found_in texts l is (Err (Refused TooManyPostings)) h = (l, is, h)
 found_in texts l is (Err OutOfMemory) h = tt
+
+-- the ledger of what texts say is that of the texts
+pub books_in : (details : Details) (texts : Texts) (l : Loaded) → IsLoaded texts l
+    → (r : Result Ledger (Refusal BookCause)) → booked.Books details l r → Books details texts r
+books_in details texts l is (Ok ledger) h = (h.0, (l, is, h.1), h.2)
+books_in details texts l is (Err (Refused TooManyPostings)) h = (l, is, h)
+books_in details texts l is (Err OutOfMemory) h = tt

@@ -2,17 +2,18 @@
 ghost use Rattle.bean_books.specs.Booking.{Books, FindsFaults};
 
 use bean_base::{Fault, List};
-use bean_book::{BookCause, Booked, Details, book, find_faults};
+use bean_book::{BookCause, Details, book, find_faults};
 use bean_load::{Texts, load};
+use posting_table::Ledger;
 use refusals::Refusal;
 use std::alloc::Global;
 
-/// The book of texts: their postings, with so much told of them, and their faults.
+/// The postings in the book of texts, with so much told of them, and the decimals that currencies show.
 pub fn book_of<'a>(
     alloc: Global,
     texts: &'a Texts,
     details: Details,
-) -> Result<Booked<'a>, Refusal<BookCause>>
+) -> Result<Ledger<'a>, Refusal<BookCause>>
     ensures { Books details texts.now result }
 {
     let loaded = load(alloc, texts)?;

@@ -3,8 +3,8 @@
 //! ```text
 //! let texts = gather(alloc, &mut store, "main.beancount")?;
 //! let details = Details::All;
-//! let booked = book_of(alloc, &texts, details)?;    // its postings, and all that is wrong
-//! let faults = faults_in(alloc, &texts)?;           // the faults alone
+//! let ledger = book_of(alloc, &texts, details)?;    // its postings
+//! let faults = faults_in(alloc, &texts)?;           // all that is wrong
 //! ```
 //!
 //! [`bean_load`] reads what the texts say together, and [`bean_book`] books it. Texts have one book,

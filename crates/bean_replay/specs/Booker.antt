@@ -1,5 +1,5 @@
 -- What is kept while directives are taken.
-use Rattle.std.specs.Prelude.{◌≡◌, ◌≤◌, ◌+◌, ◌^◌, ℕ, List, [], ◌∷◌, ◌++◌, length, Option, Some, None}
+use Rattle.std.specs.Prelude.{◌≡◌, ◌≤◌, ◌+◌, ◌^◌, ℕ, true, List, [], ◌∷◌, ◌++◌, length, Option, Some, None}
 use Rattle.limits.specs.declared.counts.TheConstants.{MOST_POSTINGS}
 use Rattle.bean_accounts.specs.Kept as accounts
 use Rattle.bean_directives.specs.declared.directive.Directive.{Directive}
@@ -33,8 +33,8 @@ pub record IsStanding (m : List ℕ → Method) (past : List (Placed Directive))
   pub count : additions_in b.holdings ≡ length (postings_of st.drafts)
   pub seen : List Step
   pub follows : Follows seen b.padder
-  pub steps_are : st.steps ≡ steps_of_postings (unseen_of b.watched (postings_of st.drafts)) ++ seen
-  pub faults_are : b.faults.items ≡ st.faults
+  pub steps_are : st.steps ≡ steps_of_postings (unseen_of b.asks.watched (postings_of st.drafts)) ++ seen
+  pub faults_are : b.asks.faults ≡ true → b.faults.items ≡ st.faults
   pub room : HasRoom (length past) b
 
 -- this holds of it, wherever directives led to where it stands

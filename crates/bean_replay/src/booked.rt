@@ -14,6 +14,7 @@ ghost use Rattle.bean_directives.specs.declared.directive.Directive as directive
 ghost use Rattle.bean_reductions.specs.declared.reduction.Method.{Method};
 ghost use Rattle.bean_transactions.specs.Methods.{method_in};
 
+use crate::asks::Asks;
 use crate::booker::Booker;
 use crate::bookings::Bookings;
 use crate::cause::BookCause;
@@ -35,7 +36,7 @@ pub struct Booked<'a, S> {
     pub bookings: S,
     /// The pads in their order, each with what comes of it.
     pub pads: List<NotedPad<'a>>,
-    /// All that is wrong, in no order.
+    /// All that is wrong, in no order, where it is told.
     pub faults: List<Fault>,
 }
 
@@ -52,12 +53,14 @@ fn take_all<'a, S: Bookings<'a> + Drop>(
     alloc: Global,
     methods: Methods<'a>,
     directives: Vec<Placed<ApartDirective<'a>>>,
+    tells: bool,
     bookings: S,
 ) -> Result<Led<'a, S>, Refusal<BookCause>>
     requires few { length directives.items ≤ 2 ^ 39 }
     requires small { AllByRecursion IsSmall directives.items }
     requires new { S.has_taken bookings [] }
     ensures stands { IfOk result (λ led. Stands led.booker) }
+    ensures tells { IfOk result (λ led. led.booker.asks.faults ≡ tells) }
     ensures leads { IfOk result (λ led. (m : prelude.List ℕ → Method)
         → ((a : prelude.List ℕ) → m a ≡ method_in methods.entry a)
         → (st : Stand) × IsLed S.Bookings m (reverse directives.entry.items) st led.booker
@@ -67,7 +70,11 @@ fn take_all<'a, S: Bookings<'a> + Drop>(
         → ((a : prelude.List ℕ) → m a ≡ method_in methods.entry a) → (st : Stand)
         → LeadsTo m (reverse directives.entry.items) st → IsFull st }
 {
-    let mut booker = Booker::new(alloc, methods, are_watched(&directives));
+    let asks = Asks {
+        watched: are_watched(&directives),
+        faults: tells,
+    };
+    let mut booker = Booker::new(alloc, methods, asks);
     let mut bookings = bookings;
     for placed in directives {
         match take_into(&mut booker, &mut bookings, placed) {
@@ -100,7 +107,7 @@ fn finish<'a, S: Bookings<'a> + Drop>(
         → (m : prelude.List ℕ → Method)
         → (past : prelude.List (places.Placed directives.Directive)) (st : Stand)
         → IsLed S.Bookings m past st led.entry.booker led.entry.bookings
-        → IfOk result (IsFinished S.Bookings l st) }
+        → IfOk result (IsFinished S.Bookings led.entry.booker.asks.faults l st) }
     ensures full { result ≢ prelude.Err (Refusal.Refused BookCause.TooManyPostings) }
 {
     let Led { booker, bookings } = led;
@@ -117,21 +124,22 @@ fn finish<'a, S: Bookings<'a> + Drop>(
 }
 
 /// What the directives of a loaded ledger are booked as. What is booked is handed over as soon as
-/// it is.
+/// it is. Faults change nothing of it: where it doesn't tell them, less is looked for.
 pub fn book_directives<'a, S: Bookings<'a> + Drop>(
     alloc: Global,
     loaded: Loaded<'a>,
+    tells: bool,
     bookings: S,
 ) -> Result<Booked<'a, S>, Refusal<BookCause>>
     requires { S.has_taken bookings [] }
-    ensures booked { IfOk result (IsBooked S.Bookings loaded.entry) }
+    ensures booked { IfOk result (IsBooked S.Bookings tells loaded.entry) }
     ensures small { IfOk result (λ booked. AllByRecursion IsSmallNoted booked.pads) }
     ensures full { result ≡ prelude.Err (Refusal.Refused BookCause.TooManyPostings) → HasTooMany loaded.entry }
 {
     let directives = loaded.directives();
     let methods = methods_of(alloc, otherwise(loaded.methods()), directives)?;
     let told = faults_before(alloc, &loaded)?;
-    match take_all(alloc, methods, loaded.into_directives(), bookings) {
+    match take_all(alloc, methods, loaded.into_directives(), tells, bookings) {
         Ok(led) => finish(told, led),
         Err(fault) => Err(fault),
     }

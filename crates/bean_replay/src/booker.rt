@@ -20,6 +20,7 @@ ghost use Rattle.bean_holdings.specs.declared.posted.Posted as declared;
 ghost use Rattle.bean_transactions.specs.declared.stop.LineFault as trials;
 
 use crate::accounts::{take_balance, take_close, take_open, take_pad};
+use crate::asks::Asks;
 use crate::booking::{Draft, Kept};
 use crate::cause::BookCause;
 use crate::postings::{book_postings, note_balance};
@@ -80,9 +81,8 @@ pub(crate) struct Booker<'a> {
     /// Transactions that were handed over, up to [`MANY`].
     spent: Vec<Written<'a>>,
     pub padder: Padder<'a>,
-    /// Whether any directive is a pad or a balance. Where none is the padder is shown nothing, so
-    /// that such a ledger sums nothing up.
-    pub watched: bool,
+    pub asks: Asks,
+    /// What is found of them, where they are asked for.
     pub faults: Vec<Fault>,
 }
 
@@ -98,7 +98,7 @@ impl Drop for Booker<'_> {
             spare: _,
             spent: _,
             padder: _,
-            watched: _,
+            asks: _,
             faults: _,
         } = self;
     }
@@ -106,11 +106,11 @@ impl Drop for Booker<'_> {
 
 impl<'a> Booker<'a> {
     /// Before the first directive. Takes no memory.
-    pub(crate) fn new(alloc: Global, methods: Methods<'a>, watched: bool) -> Booker<'a>
+    pub(crate) fn new(alloc: Global, methods: Methods<'a>, asks: Asks) -> Booker<'a>
         ensures stands { (m : prelude.List ℕ → Method)
             → ((a : prelude.List ℕ) → m a ≡ method_in methods.entry a)
             → IsStanding m [] start result }
-        ensures watched { result.watched ≡ watched }
+        ensures asks { result.asks ≡ asks }
     {
         Booker {
             alloc,
@@ -121,7 +121,7 @@ impl<'a> Booker<'a> {
             spare: Vec::new(alloc),
             spent: Vec::new(alloc),
             padder: Padder::new(alloc),
-            watched,
+            asks,
             faults: Vec::new(alloc),
         }
     }
@@ -138,7 +138,7 @@ impl<'a> Booker<'a> {
         ensures standing { Wherever self.old (λ m past st. IfOk result (λ booked.
             IsBehind m past st (after_trial past st written.entry (Ok tried.entry.posted)) booked
             self.new)) }
-        ensures watched { OnOk result (self.new.watched ≡ self.old.watched) }
+        ensures asks { OnOk result (self.new.asks ≡ self.old.asks) }
         ensures full { result ≡ prelude.Err (Refusal.Refused BookCause.TooManyPostings)
             → MOST_POSTINGS < additions_in self.old.holdings + length tried.entry.posted }
     {
@@ -147,7 +147,14 @@ impl<'a> Booker<'a> {
         }
         let at = written.place();
         let postings = written.transaction().postings.as_slice();
-        note_balance(&mut self.scales, &mut self.faults, at, postings, &tried)?;
+        note_balance(
+            self.asks.faults,
+            &mut self.scales,
+            &mut self.faults,
+            at,
+            postings,
+            &tried,
+        )?;
         let mut posted = tried.posted.into_vec();
         book_postings(
             self.alloc,
@@ -156,9 +163,10 @@ impl<'a> Booker<'a> {
             &mut self.faults,
             at,
             postings,
+            self.asks.faults,
             posted.as_mut_slice(),
         )?;
-        show_watched(self.watched, &mut self.padder, posted.as_slice())?;
+        show_watched(self.asks.watched, &mut self.padder, posted.as_slice())?;
         Ok(Some(Draft::Transaction(Kept {
             written,
             postings: List::new(posted),
@@ -174,7 +182,7 @@ impl<'a> Booker<'a> {
         ensures standing { Wherever self.old (λ m past st. IfOk result (λ booked.
             IsBehind m past st (after_trial past st written.now (prelude.Err fault)) booked
             self.new)) }
-        ensures watched { OnOk result (self.new.watched ≡ self.old.watched) }
+        ensures asks { OnOk result (self.new.asks ≡ self.old.asks) }
         ensures full { result ≢ prelude.Err (Refusal.Refused BookCause.TooManyPostings) }
     {
         self.faults.push(Fault {
@@ -194,7 +202,7 @@ impl<'a> Booker<'a> {
             (r : prelude.Result (prelude.List declared.Posted) trials.LineFault)
             × Tries (setting_of m st written.entry) written.entry.transaction.postings r
             × IsBehind m past st (after_trial past st written.entry r) booked self.new)) }
-        ensures watched { OnOk result (self.new.watched ≡ self.old.watched) }
+        ensures asks { OnOk result (self.new.asks ≡ self.old.asks) }
         ensures full { result ≡ prelude.Err (Refusal.Refused BookCause.TooManyPostings)
             → Wherever self.old (λ m past st.
             (r : prelude.Result (prelude.List declared.Posted) trials.LineFault)
@@ -214,6 +222,7 @@ impl<'a> Booker<'a> {
             spare,
             head,
             written.transaction().postings.as_slice(),
+            self.asks.faults,
         ) {
             Ok(tried) => self.keep(written, tried),
             Err(Refusal::Refused(fault)) => self.drop_with(&written, fault),
@@ -229,14 +238,14 @@ impl<'a> Booker<'a> {
         kind: &DirectiveKind<'a>,
     ) -> Result<Option<Draft<'a>>, Refusal<BookCause>>
         requires stands { Stands self.old }
-        requires watched { is_watching kind.now ≡ true → self.old.watched ≡ true }
+        requires watched { is_watching kind.now ≡ true → self.old.asks.watched ≡ true }
         requires other { (t : transactions.Transaction) → kind.now ≢ kinds.Transaction t }
         ensures standing { Wherever self.old (λ m past st.
             (d : places.Placed directives.Directive) → d.item.day ≡ day → spec.place_of d ≡ place
             → d.item.kind ≡ kind.now → IfOk result (λ booked. (new : Stand)
             × IsStepBy m past st d d.item.kind new
             × IsBehind m (d ∷ past) st new booked self.new)) }
-        ensures watched { OnOk result (self.new.watched ≡ self.old.watched) }
+        ensures asks { OnOk result (self.new.asks ≡ self.old.asks) }
         ensures full { result ≢ prelude.Err (Refusal.Refused BookCause.TooManyPostings) }
     {
         match kind {
@@ -287,11 +296,11 @@ impl<'a> Booker<'a> {
         placed: Placed<ApartDirective<'a>>,
     ) -> Result<Option<Draft<'a>>, Refusal<BookCause>>
         requires stands { Stands self.old }
-        requires watched { IsWatched self.old.watched placed }
+        requires watched { IsWatched self.old.asks.watched placed }
         ensures standing { Wherever self.old (λ m past st. IfOk result (λ booked. (new : Stand)
             × IsStepBy m past st placed.entry placed.entry.item.kind new
             × IsBehind m (placed.entry ∷ past) st new booked self.new)) }
-        ensures watched { OnOk result (self.new.watched ≡ self.old.watched) }
+        ensures asks { OnOk result (self.new.asks ≡ self.old.asks) }
         ensures full { result ≡ prelude.Err (Refusal.Refused BookCause.TooManyPostings)
             → Wherever self.old (λ m past st. (new : Stand)
             → IsStepBy m past st placed.entry placed.entry.item.kind new → IsFull new) }
@@ -310,7 +319,7 @@ impl<'a> Booker<'a> {
     /// booked in its memory.
     pub(crate) fn reuse(&mut self, booked: Option<Draft<'a>>)
         ensures standing { Wherever self.old (λ m past st. IsStanding m past st self.new) }
-        ensures watched { self.new.watched ≡ self.old.watched }
+        ensures asks { self.new.asks ≡ self.old.asks }
     {
         if let Some(Draft::Transaction(kept)) = booked {
             self.spare = kept.postings.into_vec();

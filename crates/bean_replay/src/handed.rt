@@ -59,12 +59,12 @@ pub(crate) fn take_into<'a, S: Bookings<'a>>(
     requires stands { (m : List ℕ → Method) × (past : List (places.Placed directives.Directive))
         × (st : Stand) × IsLed S.Bookings m past st booker.old to.old
         × AllByRecursion IsSmall (placed ∷ past) × (length past ≤ 2 ^ 39) }
-    requires watched { IsWatched booker.old.watched placed }
+    requires watched { IsWatched booker.old.asks.watched placed }
     ensures led { (m : List ℕ → Method) (past : List (places.Placed directives.Directive))
         (st : Stand) → IsLed S.Bookings m past st booker.old to.old
         → OnOk result ((new : Stand)
         × IsLed S.Bookings m (placed.entry ∷ past) new booker.new to.new) }
-    ensures watched { OnOk result (booker.new.watched ≡ booker.old.watched) }
+    ensures asks { OnOk result (booker.new.asks ≡ booker.old.asks) }
     ensures full { result ≡ prelude.Err (Refusal.Refused BookCause.TooManyPostings)
         → (m : List ℕ → Method) (past : List (places.Placed directives.Directive)) (st : Stand)
         → IsLed S.Bookings m past st booker.old to.old → (new : Stand)

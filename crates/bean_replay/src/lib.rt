@@ -33,6 +33,7 @@
 #![tactic(auto)]
 
 mod accounts;
+mod asks;
 mod booked;
 mod booker;
 mod booking;

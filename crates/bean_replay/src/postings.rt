@@ -1,6 +1,6 @@
 //! The booked postings of a transaction.
 ghost use Rattle.std.specs.Prelude.{◌≡◌, ◌<◌, ◌≤◌, ◌+◌, ◌^◌, ◌∷◌, ◌++◌, [], IfOk, OnOk, length};
-ghost use Rattle.std.specs.Prelude.{not, slice_get};
+ghost use Rattle.std.specs.Prelude.{not, slice_get, true};
 ghost use Rattle.std.specs.Prelude as prelude;
 ghost use Rattle.std.specs.List.{AllByRecursion, flat_map};
 ghost use Rattle.bean_accounts.specs.Faults.{faults_at, kind_if};
@@ -34,8 +34,8 @@ fn place_in(at: Place, postings: &[WrittenPosting<'_>], written: usize) -> Place
     }
 }
 
-/// Adds the faults of a booked posting, and the posting to what its account holds. Its account is
-/// named as the open of the account wrote it then. The account's place among those that were opened
+/// Adds the faults of a booked posting, if they are asked for, and the posting to what its account
+/// holds. Its account is named as the open of the account wrote it then. The account's place among those that were opened
 /// tells it apart from others where it holds something.
 fn book_posting<'a>(
     alloc: Global,
@@ -44,6 +44,7 @@ fn book_posting<'a>(
     faults: &mut Vec<Fault>,
     at: Place,
     postings: &[WrittenPosting<'a>],
+    asked: bool,
     posted: &mut Posted<'a>,
 ) -> Result<(), AllocError>
     requires bounded { IsBounded holdings.old }
@@ -51,7 +52,7 @@ fn book_posting<'a>(
     ensures posted { posted.new ≡ posted.old }
     ensures kept { (past : prelude.List lives.Step) → IsKept past accounts.old
         → IsKept past accounts.new }
-    ensures faults { (past : prelude.List lives.Step) → IsKept past accounts.old
+    ensures faults { (past : prelude.List lives.Step) → IsKept past accounts.old → asked ≡ true
         → OnOk result (faults.new.items ≡ faults.old.items
         ++ spec.posted_faults past at postings.now posted.old) }
     ensures held { OnOk result ((ps : prelude.List declared.Posted) → AreHeld ps holdings.old
@@ -60,11 +61,17 @@ fn book_posting<'a>(
     ensures additions { OnOk result (additions_in holdings.new ≡ additions_in holdings.old + 1) }
 {
     let at = place_in(at, postings, posted.written);
-    let near = accounts.note_posting(&mut posted.account, &posted.units.currency, at, faults)?;
+    let near = accounts.note_posting(
+        &mut posted.account,
+        &posted.units.currency,
+        at,
+        asked,
+        faults,
+    )?;
     holdings.post(alloc, posted, near)
 }
 
-/// Adds the faults of all booked postings of a transaction, and the postings to what their accounts
+/// Adds the faults of all booked postings of a transaction, if they are asked for, and the postings to what their accounts
 /// hold, which are named as they were opened.
 pub(crate) fn book_postings<'a>(
     alloc: Global,
@@ -73,6 +80,7 @@ pub(crate) fn book_postings<'a>(
     faults: &mut Vec<Fault>,
     at: Place,
     postings: &[WrittenPosting<'a>],
+    asked: bool,
     posted: &mut [Posted<'a>],
 ) -> Result<(), AllocError>
     requires bounded { IsBounded holdings.old }
@@ -80,7 +88,7 @@ pub(crate) fn book_postings<'a>(
     ensures posted { OnOk result (posted.new ≡ posted.old) }
     ensures kept { (past : prelude.List lives.Step) → IsKept past accounts.old
         → IsKept past accounts.new }
-    ensures faults { (past : prelude.List lives.Step) → IsKept past accounts.old
+    ensures faults { (past : prelude.List lives.Step) → IsKept past accounts.old → asked ≡ true
         → OnOk result (faults.new.items ≡ faults.old.items
         ++ flat_map (spec.posted_faults past at postings.now) posted.old) }
     ensures held { OnOk result ((ps : prelude.List declared.Posted) → AreHeld ps holdings.old
@@ -97,6 +105,7 @@ pub(crate) fn book_postings<'a>(
             faults,
             at,
             postings,
+            asked,
             &mut posted[index],
         )?;
     }
@@ -121,8 +130,9 @@ fn balances_as<'a>(
     }
 }
 
-/// Adds F18 where a transaction doesn't balance.
+/// Adds F18 where a transaction doesn't balance, if it is asked for.
 pub(crate) fn note_balance<'a>(
+    asked: bool,
     scales: &mut Scales<'a>,
     faults: &mut Vec<Fault>,
     at: Place,
@@ -132,10 +142,13 @@ pub(crate) fn note_balance<'a>(
     requires few { length tried.now.posted ≤ 10 ^ 9 }
     requires light { AllByRecursion IsLight (booked_legs postings.now tried.now.posted) }
     requires balances { KnowsBalance postings.now tried.now }
-    ensures { OnOk result (faults.new.items ≡ faults.old.items ++ faults_at at
+    ensures { asked ≡ true → OnOk result (faults.new.items ≡ faults.old.items ++ faults_at at
         (kind_if (not (is_balanced (booked_legs postings.now tried.now.posted)))
         FaultKind.Unbalanced)) }
 {
+    if !asked {
+        return Ok(());
+    }
     if !balances_as(scales, postings, tried)? {
         faults.push(Fault {
             kind: FaultKind::Unbalanced,

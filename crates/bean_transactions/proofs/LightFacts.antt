@@ -25,10 +25,11 @@ use Rattle.bean_postings.specs.declared.price.Price.{Price}
 use Rattle.bean_postings.specs.declared.price.Price.TheVariants as price_kind
 use Rattle.bean_interp.proofs.DueFacts.{number_lt}
 use Rattle.bean_interp.specs.Residual.{AreInRange, IsLight, sum_in, weighed}
-use Rattle.bean_interp.specs.Weight.{currency_of, weight_of}
+use Rattle.bean_interp.specs.Weight.{IsOfUnits, count_of, currency_of, weight_of}
 use Rattle.bean_interp.specs.declared.fill.Fill.{Fill}
 use Rattle.bean_interp.specs.declared.leg.Leg.{Leg}
 use Rattle.bean_interp.specs.declared.leg.Leg.TheVariants as leg
+use Rattle.bean_interp.specs.declared.leg.Whole.{Whole}
 use Rattle.bean_reductions.specs.Take.{signed_takes}
 use Rattle.bean_lots.specs.declared.lot.Lot.{Lot}
 use Rattle.bean_lots.specs.declared.lot.Position.{Position}
@@ -84,6 +85,17 @@ in_range legs h few = record {
       let bound = light_sum (take k legs) c (first_light k legs h) in
       let fewer = first_few k legs in omega (arith, bound, fewer, few);
 }
+
+pub light_more : (legs : List Leg) (l : Leg) → AllByRecursion IsLight legs → IsLight l
+    → AllByRecursion IsLight (legs ++ l ∷ [])
+light_more [] l h new = (new, tt)
+light_more (k ∷ legs) l h new = (h.0, light_more legs l h.1 new)
+
+pub light_units : (units : amounts.Amount) (w : Whole) → IsOfUnits units w → IsLight (leg.Whole w)
+light_units units w is =
+    subst (λ z. unsigned_abs z < 10 ^ 28)
+    (sym (ap (λ u. count_of u w.worth) is.units_are ∙ ap (count_of units) is.worth_is))
+    (number_lt units.number)
 
 -- ---- where something lacks, no price is written
 

@@ -6,7 +6,7 @@ ghost use Rattle.bean_transactions.specs.Plain as spec;
 ghost use Rattle.bean_transactions.specs.Plain.{AreAsWritten, IsAsWritten};
 ghost use Rattle.bean_transactions.specs.Tried.{KnowsBalance, TriesOrLacks, is_outside};
 
-use crate::legs::judge;
+use crate::legs::{are_light, judge};
 use crate::line::Tried;
 use crate::setting::Head;
 use crate::stop::{LineFault, refusal_of};
@@ -84,12 +84,14 @@ pub(crate) fn as_written<'a>(
 }
 
 /// Tries a transaction whose postings are all booked as they are written. They are its lines, which
-/// lack nothing, so one weighing tells whether it is too wide and whether it balances.
+/// lack nothing, so one weighing tells whether it is too wide and whether it balances. Where it needn't
+/// balance, none is needed for postings that weigh what their units are.
 pub(crate) fn try_plain<'a>(
     scales: &mut Scales<'a>,
     spare: Vec<Posted<'a>>,
     head: Head,
     postings: &[WrittenPosting<'a>],
+    weighs: bool,
 ) -> Result<Tried<'a>, Refusal<LineFault>>
     requires plain { list_all spec.is_plain postings.now ≡ true }
     requires inside { is_outside postings.now ≡ false }
@@ -97,6 +99,12 @@ pub(crate) fn try_plain<'a>(
     ensures balances { IfOk result (KnowsBalance postings.now) }
 {
     let posted = as_written(spare, postings)?;
+    if !weighs && are_light(postings, posted.as_slice()) {
+        return Ok(Tried {
+            posted: List::new(posted),
+            balances: None,
+        });
+    }
     match judge(scales, postings, posted.as_slice()) {
         Ok(balances) => Ok(Tried {
             posted: List::new(posted),

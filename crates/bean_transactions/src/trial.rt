@@ -87,8 +87,8 @@ fn try_lines<'a>(
 }
 
 /// The postings that a transaction is booked as, or its first fault. Nothing that is held is
-/// changed. Where all are booked as they are written, it is known as well whether they balance. The
-/// postings stand in the memory of `spare`, whatever that list has.
+/// changed. Where all are booked as they are written, and it is weighed, it is known as well whether
+/// they balance. The postings stand in the memory of `spare`, whatever that list has.
 pub fn try_transaction<'a>(
     alloc: Global,
     holdings: &Holdings<'a>,
@@ -97,6 +97,7 @@ pub fn try_transaction<'a>(
     spare: Vec<Posted<'a>>,
     head: Head,
     postings: &[WrittenPosting<'a>],
+    weighs: bool,
 ) -> Result<Tried<'a>, Refusal<LineFault>>
     requires bounded { IsBounded holdings.now }
     requires few { additions_in holdings.now ≤ 2 ^ 40 }
@@ -111,7 +112,7 @@ pub fn try_transaction<'a>(
         }));
     }
     if are_plain(postings) {
-        return try_plain(scales, spare, head, postings);
+        return try_plain(scales, spare, head, postings, weighs);
     }
     if lack_last_amount(postings) {
         return try_lacking_last(alloc, scales, spare, head, postings);

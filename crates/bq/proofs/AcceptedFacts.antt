@@ -4,7 +4,7 @@ use Rattle.std.proofs.Common.{refl, sym, ap, ap₂, subst, append_assoc}
 use Rattle.std.proofs.lemmas.List.{append-nil}
 use Rattle.std.specs.List.{AllByRecursion}
 use Rattle.query_fates.specs.Fates.{AreFates, AreFilesFor, HasProgram}
-use Rattle.bean_book.specs.declared.booked.Booked.{Booked}
+use Rattle.bean_book.specs.Book.{Book}
 use Rattle.clap.specs.Walk.{Text}
 use Rattle.query_code.specs.declared.program.Parts.{Parts}
 use Rattle.query_files.proofs.FileFacts.{one_program}
@@ -216,7 +216,7 @@ same_programs (bytes ∷ files) (p ∷ ps) (q ∷ qs) are also =
 
 -- what is told of the files is told of their programs, whichever they are shown to have
 pub batched : (names : List Text) (files : List (List ℕ)) (programs : List (Parts × ℕ))
-    → AreFilesFor files programs → (b : Booked) (end : End) → FilesBatched names files b end
+    → AreFilesFor files programs → (b : Book) (end : End) → FilesBatched names files b end
     → Batched names programs b end
 batched names files programs are b end h =
     let same = same_programs files h.1.0 programs h.1.1 are in

@@ -1,12 +1,12 @@
 -- From a book with as many details as what is asked of it needs, to the book with all.
-use Rattle.std.proofs.Common.{◌≡◌, ℕ, List, [], ◌∷◌, map, refl, ap, ◌∙◌, Result, Ok, Err}
+use Rattle.std.proofs.Common.{◌≡◌, ℕ, List, [], ◌∷◌, map, refl, ap, ◌∙◌, subst, Result, Ok, Err}
 use Rattle.std.specs.List.{AllByRecursion}
 use Rattle.bean_book.proofs.LeftOutFacts.{whole_book}
 use Rattle.bean_book.specs.LeftOut.{IsToldOf, row_told}
-use Rattle.bean_book.specs.declared.booked.Booked.{Booked}
+use Rattle.bean_book.specs.Book.{Book}
 use Rattle.bean_book.specs.declared.details.Details.{Details}
 use Rattle.bean_book.specs.declared.details.Details.TheVariants.{All, ButAccounts, Few}
-use Rattle.bean_books.specs.Booking.{IsBookOf}
+use Rattle.bean_books.specs.Booking.{Books, IsBookOf}
 use Rattle.bean_load.specs.Texts.{Texts}
 use Rattle.plain_machine.specs.Unread.{but_accounts, cell_but_accounts}
 use Rattle.posting_table.specs.Decimals.{decimals_of}
@@ -73,7 +73,7 @@ rows_alike : (rs : List Row)
 rows_alike [] = refl
 rows_alike (r ∷ rs) = λ i. row_alike r i ∷ rows_alike rs i
 
-ledgers_alike : (bare whole : Booked) → IsToldOf ButAccounts bare whole
+ledgers_alike : (bare whole : Book) → IsToldOf ButAccounts bare whole
     → AreAlikeButAccounts bare.ledger whole.ledger
 ledgers_alike bare whole same = record {
   rows = ap (map row_of) same.rows ∙ rows_alike whole.ledger.rows;
@@ -84,9 +84,9 @@ ledgers_alike bare whole same = record {
 
 module _ (texts : Texts) (NoneNeeds : Type 0) (IsSo : Ledger → Type 0)
     (law : NoneNeeds → IsSoOfBoth IsSo) where
-  so_of_whole : (details : Details) → Suffice details NoneNeeds → (b : Booked)
+  so_of_whole : (details : Details) → Suffice details NoneNeeds → (b : Book)
       → IsBookOf details texts b → IsSo b.ledger
-      → (whole : Booked) × IsBookOf All texts whole × IsSo whole.ledger
+      → (whole : Book) × IsBookOf All texts whole × IsSo whole.ledger
   so_of_whole All suffice b book is = (b, book, is)
   so_of_whole Few suffice b book is = absurd suffice
   so_of_whole ButAccounts none b book is =
@@ -113,18 +113,21 @@ has_alike file none (Err (Refused cause.TooManyPostings)) = λ bare l alike.
 has_alike file none (Err (NotWritten n)) = λ bare l alike. ((λ is. is), (λ is. is))
 has_alike file none (Err NotKept) = λ bare l alike. ((λ is. is), (λ is. is))
 
-module _ (texts : Texts) (details : Details) (b : Booked) (book : IsBookOf details texts b) where
+module _ (texts : Texts) (details : Details) (ledger : Ledger)
+    (books : Books details texts (Ok ledger)) where
   pub has_of_whole : (file : List ℕ) → Suffice details (FileNeedsNoAccounts file)
-      → (r : Result (List ℕ) Refusal) → HasTable file b.ledger r
-      → (whole : Booked) × IsBookOf All texts whole × HasTable file whole.ledger r
+      → (r : Result (List ℕ) Refusal) → HasTable file ledger r
+      → (whole : Book) × IsBookOf All texts whole × HasTable file whole.ledger r
   has_of_whole file suffice r has =
       so_of_whole texts (FileNeedsNoAccounts file) (λ l. HasTable file l r)
-      (λ none. has_alike file none r) details suffice b book has
+      (λ none. has_alike file none r) details suffice books.0 books.1
+      (subst (λ l. HasTable file l r) books.2 has)
 
   pub fates_of_whole : (files : List (List ℕ))
       → Suffice details (AllByRecursion FileNeedsNoAccounts files) → (fates : List Fate)
-      → AreFatesOf b.ledger files fates
-      → (whole : Booked) × IsBookOf All texts whole × AreFatesOf whole.ledger files fates
+      → AreFatesOf ledger files fates
+      → (whole : Book) × IsBookOf All texts whole × AreFatesOf whole.ledger files fates
   fates_of_whole files suffice fates are =
       so_of_whole texts (AllByRecursion FileNeedsNoAccounts files) (λ l. AreFatesOf l files fates)
-      (λ none. files_alike files none fates) details suffice b book are
+      (λ none. files_alike files none fates) details suffice books.0 books.1
+      (subst (λ l. AreFatesOf l files fates) books.2 are)

@@ -2,7 +2,7 @@
 use Rattle.std.proofs.Common.{◌≡◌, inl, inr, ℕ, List, [], ◌∷◌, length, true, Result, Ok, Err}
 use Rattle.std.proofs.Common.{refl, sym, ap, ◌∙◌, subst, arith}
 use Rattle.bean_book.specs.OneBook.{AreAlike as SameBooks}
-use Rattle.bean_book.specs.declared.booked.Booked.{Booked}
+use Rattle.bean_book.specs.Book.{Book}
 use Rattle.bean_book.specs.declared.details.Details.TheVariants.{All}
 use Rattle.bean_load.proofs.OneGathering.{one_gathering}
 use Rattle.bean_load.specs.Texts.{Texts}
@@ -164,11 +164,11 @@ one_about_ledger Says one name readings a b (inr h) (inr k) =
     one h.0 a b h.2 (subst (λ t. Says t b) (sym same) k.2)
 
 -- what is said of books that are alike
-abbrev pub SaysOne : (Booked → End → Type 0) → Type 0
+abbrev pub SaysOne : (Book → End → Type 0) → Type 0
 SaysOne Says =
-    (x y : Booked) → SameBooks x y → (a b : End) → Says x a → Says y b → AreAlike a b
+    (x y : Book) → SameBooks x y → (a b : End) → Says x a → Says y b → AreAlike a b
 
-pub one_about_book : (Says : Booked → End → Type 0) → SaysOne Says → (texts : Texts)
+pub one_about_book : (Says : Book → End → Type 0) → SaysOne Says → (texts : Texts)
     → IsOneEnd (about_book Says texts)
 one_about_book Says one texts a b (inl h) (inl k) =
     both_are a b (Err cause.TooManyPostings) h.1 k.1

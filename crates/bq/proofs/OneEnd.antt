@@ -12,7 +12,7 @@ use Rattle.bql_meaning.specs.Answer.{IsAnswer, finish_of}
 use Rattle.bql_meaning.specs.Answer as meaning
 use Rattle.bql_parser.specs.Asked.{Asked}
 use Rattle.bql_compiler.specs.Program.{target_name}
-use Rattle.bean_book.specs.declared.booked.Booked.{Booked}
+use Rattle.bean_book.specs.Book.{Book}
 use Rattle.bean_load.specs.Texts.{Texts}
 use Rattle.clap.specs.Walk.{Text}
 use Rattle.fault_printer.specs.Lines.{lines_of}
@@ -76,7 +76,7 @@ one_upgraded new p a b h k =
     both_are a b (Ok (Kept new k.0))
     (h.2 ∙ ap (λ bytes. Ok (Kept new bytes)) (h.1.written ∙ sym k.1.written)) k.2
 
-fits_alike : (p : Parts) (x y : Booked) → x.ledger.rows ≡ y.ledger.rows
+fits_alike : (p : Parts) (x y : Book) → x.ledger.rows ≡ y.ledger.rows
     → fits p.bounds (rows_of x.ledger) ≡ fits p.bounds (rows_of y.ledger)
 fits_alike p x y same = ap (λ rs. fits p.bounds (map row_of rs)) same
 
@@ -143,7 +143,7 @@ one_about_files Of one (name ∷ names) readings =
     (λ ps. one ((p, depth) ∷ ps)) names rest)) name readings
 
 -- the same became of both, or memory lacked for one
-module _ (x y : Booked) (same : SameBooks x y) where
+module _ (x y : Book) (same : SameBooks x y) where
   same_fate : (p : Parts × ℕ) (f g : Fate) → IsFate x.ledger p f → IsFate y.ledger p g
       → (f ≡ g) ⊎ (lacks_memory f ≡ true) ⊎ (lacks_memory g ≡ true)
   same_fate p (fate.Table t) (fate.Table u) h k =

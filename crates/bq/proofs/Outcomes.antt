@@ -6,7 +6,7 @@ use Rattle.std.specs.Result.{IsErrAnd}
 use Rattle.bean_load.specs.Following.{Gathers, IsGathered}
 use Rattle.bean_load.specs.Texts.{Texts}
 use Rattle.bean_load.specs.declared.cause.LoadCause.{LoadCause}
-use Rattle.bean_book.specs.declared.booked.Booked.{Booked}
+use Rattle.bean_book.specs.Book.{Book}
 use Rattle.bean_book.specs.declared.details.Details.{Details}
 use Rattle.bean_replay.specs.declared.cause.BookCause.{BookCause}
 use Rattle.bean_replay.specs.declared.cause.BookCause.TheVariants as books
@@ -106,13 +106,13 @@ told name readings texts are Says result h =
     result h
 
 -- texts that have no book
-pub not_booked : (details : Details) (texts : Texts) (Says : Booked → End → Type 0)
+pub not_booked : (details : Details) (texts : Texts) (Says : Book → End → Type 0)
     (r : refusals.Refusal BookCause) → Books details texts (Err r)
     → ComesTo (about_book Says texts) (Err (unbooked r))
 not_booked details texts Says (refusal.Refused books.TooManyPostings) many = inl (many, refl)
 not_booked details texts Says refusal.OutOfMemory many = tt
 
-pub not_found : (texts : Texts) (Says : Booked → End → Type 0) (r : refusals.Refusal BookCause)
+pub not_found : (texts : Texts) (Says : Book → End → Type 0) (r : refusals.Refusal BookCause)
     → FindsFaults texts (Err r) → ComesTo (about_book Says texts) (Err (unbooked r))
 not_found texts Says (refusal.Refused books.TooManyPostings) many = inl (many, refl)
 not_found texts Says refusal.OutOfMemory many = tt

@@ -1,7 +1,7 @@
 -- From the file of a query's program to what a command comes to.
 use Rattle.std.proofs.Common.{◌≡◌, inl, inr, ℕ, List, [], true, Result, Ok, Err, refl, sym, ap, subst, ◌∙◌}
 use Rattle.std.proofs.lemmas.Bool.{false≢true}
-use Rattle.bean_book.specs.declared.booked.Booked.{Booked}
+use Rattle.bean_book.specs.Book.{Book}
 use Rattle.bean_book.specs.declared.details.Details.TheVariants.{All}
 use Rattle.bean_load.specs.Texts.{Texts}
 use Rattle.bql_parser.specs.Asked.{Asked}
@@ -56,14 +56,14 @@ module _ (b : Bounds) (Of : Asked → Due) (text : Text) where
 
 -- ---- what is said of a ledger says another thing of it
 
-pub of_book : (Says Other : Booked → End → Type 0)
-    → ((book : Booked) (end : End) → Says book end → Other book end) → (texts : Texts) (end : End)
+pub of_book : (Says Other : Book → End → Type 0)
+    → ((book : Book) (end : End) → Says book end → Other book end) → (texts : Texts) (end : End)
     → about_book Says texts end → about_book Other texts end
 of_book Says Other says texts end (inl many) = inl many
 of_book Says Other says texts end (inr h) = inr (h.0, h.1, says h.0 end h.2)
 
-pub of_ledger : (Says Other : Booked → End → Type 0)
-    → ((book : Booked) (end : End) → Says book end → Other book end) → (name : Text)
+pub of_ledger : (Says Other : Book → End → Type 0)
+    → ((book : Book) (end : End) → Says book end → Other book end) → (name : Text)
     (readings : List Reading) (end : End) → about_ledger (about_book Says) name readings end
     → about_ledger (about_book Other) name readings end
 of_ledger Says Other says name readings end (inl none) = inl none
@@ -73,7 +73,7 @@ of_ledger Says Other says name readings end (inr h) =
 -- ---- a query
 
 -- the file of its program answers for it
-pub answered : (file : List ℕ) (q : Asked) → IsFileOf widest q file → (b : Booked) (end : End)
+pub answered : (file : List ℕ) (q : Asked) → IsFileOf widest q file → (b : Book) (end : End)
     → FileAnswers file b end → Answered q b end
 answered file q is b end by =
     (by.0, by.1 is.program q is.is_file is.is_program.carries, by.2)
@@ -92,21 +92,21 @@ not_outside file l by is_within is =
     ∙ ap (λ bounds. fits bounds (rows_of l)) (by is.program is.verified.is_file)
     ∙ is_within)
 
-pub not_asked : (texts : Texts) (b : Booked) (file : List ℕ) (r : Refusal) → HasBounds widest file
-    → fits widest (rows_of b.ledger) ≡ true → HasTable file b.ledger (Err r)
+pub not_asked : (texts : Texts) (l : Ledger) (file : List ℕ) (r : Refusal) → HasBounds widest file
+    → fits widest (rows_of l) ≡ true → HasTable file l (Err r)
     → ComesTo (about_book (FileAnswers file) texts) (Err r)
-not_asked texts b file (Refused cause.OutsideBounds) by is_within is =
-    absurd (not_outside file b.ledger by is_within is)
-not_asked texts b file OutOfMemory by is_within is = tt
-not_asked texts b file (Refused cause.Words) by is_within is = absurd is
-not_asked texts b file (Refused (cause.Load c)) by is_within is = absurd is
-not_asked texts b file (Refused (cause.Text c)) by is_within is = absurd is
-not_asked texts b file (Refused (cause.File c)) by is_within is = absurd is
-not_asked texts b file (Refused cause.TooManyPostings) by is_within is = absurd is
-not_asked texts b file (NotWritten n) by is_within is = absurd is
-not_asked texts b file NotKept by is_within is = absurd is
+not_asked texts l file (Refused cause.OutsideBounds) by is_within is =
+    absurd (not_outside file l by is_within is)
+not_asked texts l file OutOfMemory by is_within is = tt
+not_asked texts l file (Refused cause.Words) by is_within is = absurd is
+not_asked texts l file (Refused (cause.Load c)) by is_within is = absurd is
+not_asked texts l file (Refused (cause.Text c)) by is_within is = absurd is
+not_asked texts l file (Refused (cause.File c)) by is_within is = absurd is
+not_asked texts l file (Refused cause.TooManyPostings) by is_within is = absurd is
+not_asked texts l file (NotWritten n) by is_within is = absurd is
+not_asked texts l file NotKept by is_within is = absurd is
 
-pub file_answers : (b : Booked) (file text : List ℕ) → IsAnswered file b.ledger text
+pub file_answers : (b : Book) (file text : List ℕ) → IsAnswered file b.ledger text
     → FileAnswers file b (Ok (Told Fine text))
 file_answers b file text is = (
   text,
@@ -119,13 +119,13 @@ file_answers b file text is = (
 -- ---- a file
 
 -- what its program comes to, whichever program it is shown to have
-pub ran : (file : List ℕ) (p : Parts) (depth : ℕ) → IsVerified file p depth → (b : Booked)
+pub ran : (file : List ℕ) (p : Parts) (depth : ℕ) → IsVerified file p depth → (b : Book)
     (end : End) → FileRan file b end → Ran p depth b end
 ran file p depth is b end h =
     let same = one_program file h.0 p h.1 depth h.2 is in
     subst (λ d. Ran p d b end) same.1 (subst (λ x. Ran x h.1 b end) same.0 h.3)
 
-pub not_run : (texts : Texts) (b : Booked) → IsBookOf All texts b → (file : List ℕ) (r : Refusal)
+pub not_run : (texts : Texts) (b : Book) → IsBookOf All texts b → (file : List ℕ) (r : Refusal)
     → HasTable file b.ledger (Err r) → ComesTo (about_book (FileRan file) texts) (Err r)
 not_run texts b book file (Refused cause.OutsideBounds) is =
     inr (b, book, (is.program, is.depth, is.verified, inl (is.outside, refl)))
@@ -138,7 +138,7 @@ not_run texts b book file (Refused cause.TooManyPostings) is = absurd is
 not_run texts b book file (NotWritten n) is = absurd is
 not_run texts b book file NotKept is = absurd is
 
-pub file_ran : (b : Booked) (file text : List ℕ) → IsAnswered file b.ledger text
+pub file_ran : (b : Book) (file text : List ℕ) → IsAnswered file b.ledger text
     → FileRan file b (Ok (Told Fine text))
 file_ran b file text is =
     (is.program, is.depth, is.verified, inr (text, is.table, refl))

@@ -5,7 +5,7 @@ use Rattle.std.specs.List.{slice_get}
 use Rattle.std.specs.Option.{option_map}
 use Rattle.std.proofs.lemmas.Option.{get_or_from_slice_get, slice_get-map}
 use Rattle.bean_book.specs.LeftOut.{IsToldOf, row_told}
-use Rattle.bean_book.specs.declared.booked.Booked.{Booked}
+use Rattle.bean_book.specs.Book.{Book}
 use Rattle.bean_book.specs.declared.details.Details.TheVariants.{Few}
 use Rattle.posting_table.specs.Decimals.{decimals_of}
 use Rattle.posting_table.specs.declared.row.Row.{Row}
@@ -51,7 +51,7 @@ rows_alike [] = refl
 rows_alike (r ∷ rows) = ap (λ rest. shown_row r ∷ rest) (rows_alike rows)
 
 -- a listing shows none of the others
-pub listed_alike : (bare whole : Booked) → IsToldOf Few bare whole
+pub listed_alike : (bare whole : Book) → IsToldOf Few bare whole
     → table_of bare.ledger ≡ table_of whole.ledger
 listed_alike bare whole same =
     ap (λ rows. table_text headers (map shown_row rows) (decimals_of bare.ledger.decimals)) same.rows

@@ -5,7 +5,7 @@ use Rattle.std.specs.List.{list_any}
 use Rattle.query_fates.specs.Fates.{AreFates, AreFatesOf}
 use Rattle.query_fates.specs.declared.tabulating.Fate.{Fate}
 use Rattle.query_fates.specs.declared.tabulating.Fate.TheVariants as fate
-use Rattle.bean_book.specs.declared.booked.Booked.{Booked}
+use Rattle.bean_book.specs.Book.{Book}
 use Rattle.clap.specs.Walk.{Text}
 use Rattle.query_code.specs.declared.program.Parts.{Parts}
 use Rattle.requests.specs.Batch as requests
@@ -61,13 +61,13 @@ about_files Of (name ∷ names) =
     about_file (about_program (λ p depth. about_files (λ rest. Of ((p, depth) ∷ rest)) names)) name
 
 -- what becomes of the programs over a book, under the names of their files
-abbrev pub Batched : List Text → List (Parts × ℕ) → Booked → End → Type 0
+abbrev pub Batched : List Text → List (Parts × ℕ) → Book → End → Type 0
 Batched names programs b end =
     (fates : List Fate) × AreFates b.ledger programs fates
     × (end ≡ Ok (Told (verdict_of fates) (text_of names fates)))
 
 -- the same by the bytes of the files
-abbrev pub FilesBatched : List Text → List (List ℕ) → Booked → End → Type 0
+abbrev pub FilesBatched : List Text → List (List ℕ) → Book → End → Type 0
 FilesBatched names files b end =
     (fates : List Fate) × AreFatesOf b.ledger files fates
     × (end ≡ Ok (Told (verdict_of fates) (text_of names fates)))

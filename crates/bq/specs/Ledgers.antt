@@ -1,6 +1,6 @@
 -- What is due about a ledger: why nothing is said of it, or what its texts or its book come to.
 use Rattle.std.specs.Prelude.{◌≡◌, ◌⊎◌, Ok, Err}
-use Rattle.bean_book.specs.declared.booked.Booked.{Booked}
+use Rattle.bean_book.specs.Book.{Book}
 use Rattle.bean_book.specs.declared.details.Details.TheVariants.{All}
 use Rattle.bean_load.specs.Following.{IsGathered}
 use Rattle.bean_load.specs.Texts.{Texts}
@@ -19,7 +19,7 @@ about_ledger Says name readings end =
     ⊎ ((texts : Texts) × IsGathered name readings (Ok texts) × Says texts end)
 
 -- the texts have too many postings, or this comes of their book, however much of it is told
-abbrev pub about_book : (Booked → End → Type 0) → Texts → End → Type 0
+abbrev pub about_book : (Book → End → Type 0) → Texts → End → Type 0
 about_book Says texts end =
     (HasTooMany texts × (end ≡ Err TooManyPostings))
-    ⊎ ((b : Booked) × IsBookOf All texts b × Says b end)
+    ⊎ ((b : Book) × IsBookOf All texts b × Says b end)

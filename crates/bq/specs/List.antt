@@ -1,6 +1,6 @@
 -- `list LEDGER`: the table of the postings of a ledger.
 use Rattle.std.specs.Prelude.{◌≡◌, ℕ, List, map, Ok}
-use Rattle.bean_book.specs.declared.booked.Booked.{Booked}
+use Rattle.bean_book.specs.Book.{Book}
 use Rattle.bean_load.specs.Texts.{Texts}
 use Rattle.clap.specs.Walk.{Text}
 use Rattle.bq.specs.Columns.{shown}
@@ -31,7 +31,7 @@ table_of ledger =
     table_text headers (map shown_row ledger.rows) (decimals_of ledger.decimals)
 
 -- that of a book, which says nothing of faults
-abbrev pub Listed : Booked → End → Type 0
+abbrev pub Listed : Book → End → Type 0
 Listed b end = end ≡ Ok (Told Fine (table_of b.ledger))
 
 -- the table of the postings that the texts are booked as

@@ -1,6 +1,6 @@
 -- `query LEDGER TEXT`: the table of what a query answers over a ledger.
 use Rattle.std.specs.Prelude.{◌≡◌, ℕ, List, Ok}
-use Rattle.bean_book.specs.declared.booked.Booked.{Booked}
+use Rattle.bean_book.specs.Book.{Book}
 use Rattle.bql_parser.specs.Asked.{Asked}
 use Rattle.bql_compiler.specs.Carried.{Carries}
 use Rattle.clap.specs.Walk.{Text}
@@ -18,12 +18,12 @@ use Rattle.bq.specs.declared.given.Given.TheVariants.{Told}
 use Rattle.endings.specs.declared.verdict.Verdict.TheVariants.{Fine}
 
 -- the table of the rows that the query answers over the postings of a book
-abbrev pub Answered : Asked → Booked → End → Type 0
+abbrev pub Answered : Asked → Book → End → Type 0
 Answered q b end =
     (text : List ℕ) × IsTableOfQuery widest q b.ledger text × (end ≡ Ok (Told Fine text))
 
 -- by a file: that of each query that its program carries
-abbrev pub FileAnswers : List ℕ → Booked → End → Type 0
+abbrev pub FileAnswers : List ℕ → Book → End → Type 0
 FileAnswers file b end =
     (text : List ℕ) × ((p : Parts) (q : Asked) → IsFile file p → Carries widest p q
     → IsTableOfQuery widest q b.ledger text) × (end ≡ Ok (Told Fine text))

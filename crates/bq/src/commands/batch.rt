@@ -140,10 +140,10 @@ impl Question for Batching<'_, '_> {
 
     fn answer<'w>(&self, alloc: Global, texts: Texts) -> Result<Given<'w>, Refusal> {
         let details = details_for_all(alloc, self.files)?;
-        let booked = book_of(alloc, &texts, details)?;
-        let ended = file_fates(alloc, self.files, &booked.ledger, self.steps)?;
+        let ledger = book_of(alloc, &texts, details)?;
+        let ended = file_fates(alloc, self.files, &ledger, self.steps)?;
         // The process ends soon, and takes all memory back at once.
-        forget(booked);
+        forget(ledger);
         let text = text_of(alloc, self.names, &ended)?;
         Ok(Given::Told(verdict_of(&ended), Text::new(text)))
     }

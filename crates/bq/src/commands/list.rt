@@ -62,10 +62,10 @@ impl Question for Listing {
 
     fn answer<'w>(&self, alloc: Global, texts: Texts) -> Result<Given<'w>, Refusal> {
         // The table shows neither accounts of transactions, nor tags, links and metadata.
-        let mut booked = book_of(alloc, &texts, Details::Few)?;
-        let text = printed(alloc, &mut booked.ledger)?;
+        let mut ledger = book_of(alloc, &texts, Details::Few)?;
+        let text = printed(alloc, &mut ledger)?;
         // The process ends soon, and takes all memory back at once.
-        forget(booked);
+        forget(ledger);
         Ok(Given::Told(Verdict::Fine, Text::of_table(text)))
     }
 }

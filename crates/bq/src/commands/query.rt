@@ -41,12 +41,12 @@ impl Question for Asking<'_> {
 
     fn answer<'w>(&self, alloc: Global, texts: Texts) -> Result<Given<'w>, Refusal> {
         let details = details_for(alloc, self.file)?;
-        let booked = book_of(alloc, &texts, details)?;
+        let ledger = book_of(alloc, &texts, details)?;
         // So its program is never refused for them.
-        prove!(booked.ledger.fits(&WIDEST));
-        let text = table_of(alloc, self.file, &booked.ledger)?;
+        prove!(ledger.fits(&WIDEST));
+        let text = table_of(alloc, self.file, &ledger)?;
         // The process ends soon, and takes all memory back at once.
-        forget(booked);
+        forget(ledger);
         Ok(Given::Told(Verdict::Fine, Text::of_table(text)))
     }
 }

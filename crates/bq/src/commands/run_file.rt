@@ -30,10 +30,10 @@ impl Question for Running<'_> {
 
     fn answer<'w>(&self, alloc: Global, texts: Texts) -> Result<Given<'w>, Refusal> {
         let details = details_for(alloc, self.file)?;
-        let booked = book_of(alloc, &texts, details)?;
-        let text = table_of(alloc, self.file, &booked.ledger)?;
+        let ledger = book_of(alloc, &texts, details)?;
+        let text = table_of(alloc, self.file, &ledger)?;
         // The process ends soon, and takes all memory back at once.
-        forget(booked);
+        forget(ledger);
         Ok(Given::Told(Verdict::Fine, Text::of_table(text)))
     }
 }

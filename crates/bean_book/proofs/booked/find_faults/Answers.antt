@@ -1,4 +1,4 @@
-use Rattle.std.proofs.Common.{◌≤◌, ◌∙◌, Err, ap, arith, length, reverse, subst, sym}
+use Rattle.std.proofs.Common.{◌≤◌, ◌∙◌, Err, ap, arith, length, refl, reverse, subst, sym}
 use Rattle.std.specs.List.{flat_map}
 use Rattle.limits.specs.declared.counts.TheConstants.{MOST_POSTINGS}
 use Rattle.bean_pad.specs.Note.{noted_pads}
@@ -53,4 +53,4 @@ returns c =
     let few = c.in-Ok-count_pads.ensures.few in
     found l b.stand b.leads (omega (arith, sum, few, pads, all, kept)) c.new.result
     (c.new.ensures ∙ c.in_ok-report.ensures
-    ∙ ap reported (c.into_vec-faults.ensures ∙ b.finished.faults_are))
+    ∙ ap reported (c.into_vec-faults.ensures ∙ b.finished.faults_are refl))

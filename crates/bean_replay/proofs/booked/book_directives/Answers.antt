@@ -37,12 +37,13 @@ returns-in-Ok-clause-booked g c =
     sym (c.in_ok-methods.ensures a ∙ (λ k. spec.method_of (otherwise k) (ds k) a)) in
     let all = c.in-Ok.ensures.leads m methods in
     let led = all.1 in
-    IfOk-weaker c.finish.result (IsFinished g.S.Bookings l all.0) (IsBooked g.S.Bookings l)
+    IfOk-weaker c.finish.result (IsFinished g.S.Bookings c.in-Ok.led.booker.asks.faults l all.0)
+    (IsBooked g.S.Bookings c.args.tells l)
     (λ b finished. record {
       stand = all.0;
       leads = subst (λ ds. LeadsTo m (reverse ds) all.0) own led.leads;
       few = subst (λ n. n ≤ MOST_POSTINGS) led.stands.count led.stands.room.few;
-      finished = finished;
+      finished = subst (λ told. IsFinished g.S.Bookings told l all.0 b) c.in-Ok.ensures.tells finished;
     })
     (c.finish.ensures.booked l c.in_ok-told.ensures m (reverse c.into_directives.result.items)
     all.0 led)
@@ -50,7 +51,7 @@ returns-in-Ok-clause-booked g c =
 pub returns-in-Ok-clause-small : goal.returns-in-Ok-clause-small
 returns-in-Ok-clause-small g c =
     let l = c.args.loaded in
-    IfOk-weaker c.finish.result (IsBooked g.S.Bookings l)
+    IfOk-weaker c.finish.result (IsBooked g.S.Bookings c.args.tells l)
     (λ b. AllByRecursion IsSmallNoted b.pads)
     (λ b booked.
     subst (AllByRecursion IsSmallNoted) (sym booked.finished.pads_are)

@@ -10,7 +10,8 @@ use Rattle.bean_replay.proofs.booked.take_all.Given as goal
 abbrev pub invariant-loop-placed : goal.invariant-loop-placed
 invariant-loop-placed g l = record {
   whole : l.yielded ++ l.placed-iterator.rest.items ≡ l.fn.directives.items;
-  watched : AllByRecursion (IsWatched l.booker.watched) l.placed-iterator.rest.items;
+  watched : AllByRecursion (IsWatched l.booker.asks.watched) l.placed-iterator.rest.items;
+  tells : l.booker.asks.faults ≡ l.fn.tells;
   leads : (m : List ℕ → Method) → ((a : List ℕ) → m a ≡ method_in l.fn.methods a)
       → (st : Stand) × IsLed g.S.Bookings m (reverse l.yielded) st l.booker l.bookings;
 }

@@ -18,14 +18,14 @@ loop-index-preserved c =
           ∙ written_same c.loop-index.posted i item at ∙ same;
       kept = λ past kept.
           c.in_ok-book_posting.ensures.kept past (c.loop-index.invariant.kept past kept);
-      faults = λ past kept.
+      faults = λ past kept asked.
           flat_more (spec.posted_faults past c.args.at c.args.postings.now) posted i item
           c.args.faults.now.items c.loop-index.faults.items c.book_posting.new.faults.items
-          (omega arith) is (c.loop-index.invariant.faults past kept)
+          (omega arith) is (c.loop-index.invariant.faults past kept asked)
           (subst (λ p. c.book_posting.new.faults.items
           ≡ c.loop-index.faults.items
           ++ spec.posted_faults past c.args.at c.args.postings.now p) (sym at)
-          (c.in_ok-book_posting.ensures.faults past (c.loop-index.invariant.kept past kept)));
+          (c.in_ok-book_posting.ensures.faults past (c.loop-index.invariant.kept past kept) asked));
       bounded = c.in_ok-book_posting.ensures.bounded;
       additions =
           let was = c.loop-index.invariant.additions in

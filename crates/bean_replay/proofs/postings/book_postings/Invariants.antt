@@ -1,4 +1,4 @@
-use Rattle.std.proofs.Common.{◌≡◌, ◌+◌, ◌++◌, List, take}
+use Rattle.std.proofs.Common.{◌≡◌, ◌+◌, ◌++◌, List, take, true}
 use Rattle.std.specs.List.{flat_map}
 use Rattle.bean_accounts.specs.Kept.{IsKept}
 use Rattle.bean_accounts.specs.declared.step.Step as lives
@@ -11,7 +11,7 @@ abbrev pub invariant-loop-index : goal.invariant-loop-index
 invariant-loop-index l = record {
   posted : l.posted ≡ l.initial.posted;
   kept : (past : List lives.Step) → IsKept past l.initial.accounts → IsKept past l.accounts;
-  faults : (past : List lives.Step) → IsKept past l.initial.accounts
+  faults : (past : List lives.Step) → IsKept past l.initial.accounts → l.asked ≡ true
       → l.faults.items
       ≡ l.initial.faults.items
       ++ flat_map (spec.posted_faults past l.at l.postings) (take l.index l.initial.posted);

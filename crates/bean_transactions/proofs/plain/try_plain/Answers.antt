@@ -1,4 +1,4 @@
-use Rattle.std.proofs.Common.{Err, ap, subst, sym}
+use Rattle.std.proofs.Common.{Err, ap, refl, subst, sym}
 use Rattle.bean_interp.specs.Completion.{Completes}
 use Rattle.bean_interp.specs.Balance.{Judges}
 use Rattle.bean_interp.specs.Residual.{AreInRange}
@@ -13,7 +13,18 @@ returns-in-Ok-clause-tried c = λ s is.
     let ps = c.args.postings.now in
     let qs = c.in_ok-posted.posted.items in
     let range =
-    subst (λ l. AreInRange (booked_legs ps l)) c.as_slice.ensures.value c.in-Ok.ensures.1 in (
+    subst (λ l. AreInRange (booked_legs ps l)) c.as_slice-2.ensures.value c.in-Ok.ensures.1 in (
+      c.requires.inside,
+      subst (IsKept s ps) (sym c.new-in-Ok.ensures)
+          (kept_as_written s ps qs c.in_ok-posted.ensures range),
+    )
+
+pub returns-then-are_light-clause-tried : goal.returns-then-are_light-clause-tried
+returns-then-are_light-clause-tried c = λ s is.
+    let ps = c.args.postings.now in
+    let qs = c.in_ok-posted.posted.items in
+    let range =
+    subst (λ l. AreInRange (booked_legs ps l)) c.as_slice.ensures.value (c.if-are_light.ensures refl) in (
       c.requires.inside,
       subst (IsKept s ps) (sym c.new.ensures)
           (kept_as_written s ps qs c.in_ok-posted.ensures range),
@@ -24,7 +35,7 @@ returns-clause-tried c = λ s is.
     let ps = c.args.postings.now in
     let qs = c.in_ok-posted.posted.items in
     let judged =
-    subst (λ l. Judges (booked_legs ps l) (Err c.in-Err.fault)) c.as_slice.ensures.value
+    subst (λ l. Judges (booked_legs ps l) (Err c.in-Err.fault)) c.as_slice-2.ensures.value
     c.in-Err.ensures in
     let stops =
     c.refusal_of.ensures (booked_legs ps qs)

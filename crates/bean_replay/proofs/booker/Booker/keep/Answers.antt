@@ -72,17 +72,18 @@ returns-clause-standing c = λ m past st is.
             (ap (λ l. postings_of st.drafts ++ l) lent ∙ sym (postings_more st.drafts one))
             (c.in_ok-book_postings.ensures.held (postings_of st.drafts) is.held);
         count = omega (arith, count, added, lengths, before);
-        seen = seen_of b.watched posted ++ is.seen;
-        follows = subst (λ l. Follows (seen_of b.watched l ++ is.seen) c.show_watched.new.padder) shown
+        seen = seen_of b.asks.watched posted ++ is.seen;
+        follows = subst (λ l. Follows (seen_of b.asks.watched l ++ is.seen) c.show_watched.new.padder) shown
             (c.in_ok-show_watched.ensures.follows is.seen is.follows);
-        steps_are = shown_more b.watched (postings_of st.drafts) posted
+        steps_are = shown_more b.asks.watched (postings_of st.drafts) posted
             (postings_of (st.drafts ++ one ∷ [])) st.steps is.seen (postings_more st.drafts one)
             is.steps_are;
-        faults_are = c.in_ok-book_postings.ensures.faults (account_steps past) is.accounts
+        faults_are = λ asked.
+            c.in_ok-book_postings.ensures.faults (account_steps past) is.accounts asked
             ∙ ap (λ l. l
             ++ each c.place-at.result c.as_slice-postings.result.now c.as_mut_slice.result.now)
-            c.in_ok-note_balance.ensures
-            ∙ (λ k. (is.faults_are k ++ own (there k) (written k) posted)
+            (c.in_ok-note_balance.ensures asked)
+            ∙ (λ k. (is.faults_are asked k ++ own (there k) (written k) posted)
             ++ each (there k) (written k) (lent k))
             ∙ append_assoc st.faults (own w.place w.transaction.postings posted)
             (each w.place w.transaction.postings posted);

@@ -40,9 +40,9 @@ returns-in_ok-take_open-in-Open-clause-standing c = λ m past st is d same_day f
           seen = is.seen;
           follows = is.follows;
           steps_are = is.steps_are;
-          faults_are =
+          faults_are = λ asked.
               done.faults steps is.accounts
-              ∙ (λ k. is.faults_are k ++ faults_at (at k) (of_open o.account o.method steps));
+              ∙ (λ k. is.faults_are asked k ++ faults_at (at k) (of_open o.account o.method steps));
           room = record {
             bounded = is.room.bounded;
             near = is.room.near;
@@ -75,9 +75,9 @@ returns-in_ok-take_close-in-Close-clause-standing c = λ m past st is d same_day
           seen = is.seen;
           follows = is.follows;
           steps_are = is.steps_are;
-          faults_are =
+          faults_are = λ asked.
               done.faults steps is.accounts
-              ∙ (λ k. is.faults_are k ++ faults_at (at k) (of_close o.account steps));
+              ∙ (λ k. is.faults_are asked k ++ faults_at (at k) (of_close o.account steps));
           room = record {
             bounded = is.room.bounded;
             near = is.room.near;
@@ -103,7 +103,7 @@ pub returns-in_ok-take_pad-in-Pad-clause-standing :
 returns-in_ok-take_pad-in-Pad-clause-standing c = λ m past st is d same_day from same_kind.
     let b = c.args.self.now in
     let p = c.in-Pad.pad in
-    let watched : b.watched ≡ true = c.requires.watched (ap is_watching c.in-Pad.is) in
+    let watched : b.asks.watched ≡ true = c.requires.watched (ap is_watching c.in-Pad.is) in
     let same : st.steps ≡ is.seen =
     is.steps_are
     ∙ ap (λ w. steps_of_postings (unseen_of w (postings_of st.drafts)) ++ is.seen) watched in
@@ -138,9 +138,9 @@ returns-in_ok-take_pad-in-Pad-clause-standing c = λ m past st is d same_day fro
           steps_are =
               ap (λ l. own ∷ l) same
               ∙ sym (ap (λ w. steps_of_postings (unseen_of w later) ++ own ∷ is.seen) watched);
-          faults_are =
+          faults_are = λ asked.
               done.faults steps is.accounts
-              ∙ (λ k. (is.faults_are k ++ faults_at (at k) (of_use p.account steps))
+              ∙ (λ k. (is.faults_are asked k ++ faults_at (at k) (of_use p.account steps))
               ++ faults_at (at k) (of_use p.source steps))
               ∙ append_assoc st.faults first second;
           room = record {
@@ -170,7 +170,7 @@ pub returns-in_ok-take_balance-in-Balance-clause-standing :
 returns-in_ok-take_balance-in-Balance-clause-standing c = λ m past st is d same_day from same_kind.
     let own_booker = c.args.self.now in
     let b = c.in-Balance.balance in
-    let watched : own_booker.watched ≡ true = c.requires.watched (ap is_watching c.in-Balance.is) in
+    let watched : own_booker.asks.watched ≡ true = c.requires.watched (ap is_watching c.in-Balance.is) in
     let before = postings_of st.drafts in
     let same : st.steps ≡ is.seen =
     is.steps_are ∙ ap (λ w. steps_of_postings (unseen_of w before) ++ is.seen) watched in
@@ -207,9 +207,9 @@ returns-in_ok-take_balance-in-Balance-clause-standing c = λ m past st is d same
           steps_are =
               ap (λ l. own ∷ l) same
               ∙ sym (ap (λ w. steps_of_postings (unseen_of w before) ++ own ∷ is.seen) watched);
-          faults_are =
+          faults_are = λ asked.
               done.faults steps is.accounts
-              ∙ (λ k. is.faults_are k ++ faults_at (at k) (of_use (lent k).account steps));
+              ∙ (λ k. is.faults_are asked k ++ faults_at (at k) (of_use (lent k).account steps));
           room = record {
             bounded = is.room.bounded;
             near = done.near;

@@ -1,7 +1,7 @@
 use Rattle.std.proofs.Common.{◌++◌, length, sym, ap, ◌∙◌, subst}
 use Rattle.std.specs.List.{AllByRecursion}
 use Rattle.query_fates.specs.Fates.{HasProgram}
-use Rattle.bean_book.specs.declared.booked.Booked.{Booked}
+use Rattle.bean_book.specs.Book.{Book}
 use Rattle.stores.proofs.GaveFacts.{gave_behind}
 use Rattle.requests.specs.Batch.{words_of}
 use Rattle.bq.specs.Batch.{Batched, FilesBatched, batch}
@@ -57,7 +57,7 @@ returns g c =
           (about_ledger (about_book (Batched names programs.0)) ledger found.0)
           (of_ledger (FilesBatched names given) (Batched names programs.0)
           (subst
-          (λ fs. (b : Booked) (end : End) → FilesBatched names fs b end → Batched names programs.0 b end)
+          (λ fs. (b : Book) (end : End) → FilesBatched names fs b end → Batched names programs.0 b end)
           (sym c.as_slice.ensures) (batched names files programs.0 programs.1)) ledger found.0) result
           found.2),
     )

@@ -20,7 +20,7 @@ pub text_of-requires : goal.text_of-requires
 text_of-requires c =
     let batch = c.args.self.now in
     ap length c.deref.ensures.value
-    ∙ fates_for c.in_ok-booked.booked.ledger batch.files.now c.in_ok-ended.ended.items
+    ∙ fates_for c.in_ok-ledger.ledger batch.files.now c.in_ok-ended.ended.items
     c.in_ok-ended.ensures
     ∙ batch.each
 
@@ -32,16 +32,16 @@ returns-in_err-details c =
     (ComesTo (about_book (FilesBatched batch.names.now batch.files.now) c.args.texts))
     (sym (converted step.result OutOfMemory step.ensures.1)) tt
 
-pub returns-in_err-booked : goal.returns-in_err-booked
-returns-in_err-booked c =
+pub returns-in_err-ledger : goal.returns-in_err-ledger
+returns-in_err-ledger c =
     let texts = c.args.texts in
     let batch = c.args.self.now in
     let says = FilesBatched batch.names.now batch.files.now in
-    let fault = c.in_err-booked.field-0.0 in
-    let step = c.from_residual-in_err-booked in
+    let fault = c.in_err-ledger.field-0.0 in
+    let step = c.from_residual-in_err-ledger in
     subst (ComesTo (about_book says texts))
     (sym (converted step.result (unbooked fault) step.ensures.1))
-    (not_booked c.in_ok-details.details texts says fault c.in_err-booked.ensures)
+    (not_booked c.in_ok-details.details texts says fault c.in_err-ledger.ensures)
 
 pub returns-in_err-ended : goal.returns-in_err-ended
 returns-in_err-ended c =
@@ -63,7 +63,7 @@ pub returns : goal.returns
 returns c =
     let batch = c.args.self.now in
     let whole =
-    fates_of_whole c.args.texts c.in_ok-details.details c.in_ok-booked.booked c.in_ok-booked.ensures
+    fates_of_whole c.args.texts c.in_ok-details.details c.in_ok-ledger.ledger c.in_ok-ledger.ensures
     batch.files.now c.in_ok-details.ensures c.in_ok-ended.ended.items c.in_ok-ended.ensures in
     inr (
       whole.0,

@@ -17,15 +17,15 @@ returns-in_err-details c =
     subst (ComesTo (about_book (FileRan c.args.self.now.file.now) c.args.texts))
     (sym (converted step.result OutOfMemory step.ensures.1)) tt
 
-pub returns-in_err-booked : goal.returns-in_err-booked
-returns-in_err-booked c =
+pub returns-in_err-ledger : goal.returns-in_err-ledger
+returns-in_err-ledger c =
     let texts = c.args.texts in
     let says = FileRan c.args.self.now.file.now in
-    let fault = c.in_err-booked.field-0.0 in
-    let step = c.from_residual-in_err-booked in
+    let fault = c.in_err-ledger.field-0.0 in
+    let step = c.from_residual-in_err-ledger in
     subst (ComesTo (about_book says texts))
     (sym (converted step.result (unbooked fault) step.ensures.1))
-    (not_booked c.in_ok-details.details texts says fault c.in_err-booked.ensures)
+    (not_booked c.in_ok-details.details texts says fault c.in_err-ledger.ensures)
 
 pub returns-in_err-text : goal.returns-in_err-text
 returns-in_err-text c =
@@ -33,7 +33,7 @@ returns-in_err-text c =
     let file = c.args.self.now.file.now in
     let fault = c.in_err-text.field-0.0 in
     let whole =
-    has_of_whole texts c.in_ok-details.details c.in_ok-booked.booked c.in_ok-booked.ensures file
+    has_of_whole texts c.in_ok-details.details c.in_ok-ledger.ledger c.in_ok-ledger.ensures file
     c.in_ok-details.ensures (Err fault) c.in_err-text.ensures in
     subst (ComesTo (about_book (FileRan file) texts))
     (sym (converted c.from_residual-in_err-text.result fault c.from_residual-in_err-text.ensures.1))
@@ -44,7 +44,7 @@ returns c =
     let file = c.args.self.now.file.now in
     let text = c.in_ok-text.text in
     let whole =
-    has_of_whole c.args.texts c.in_ok-details.details c.in_ok-booked.booked c.in_ok-booked.ensures
+    has_of_whole c.args.texts c.in_ok-details.details c.in_ok-ledger.ledger c.in_ok-ledger.ensures
     file c.in_ok-details.ensures (Ok text) c.in_ok-text.ensures in
     let says = file_ran whole.0 file text whole.2 in
     inr (
