@@ -1,5 +1,6 @@
 pub mod Currencies
 pub mod Life
 pub mod Method
+pub mod Methods
 pub mod Faults
 pub mod Kept

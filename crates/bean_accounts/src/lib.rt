@@ -1,4 +1,5 @@
-//! Accounts while a ledger is booked: which are opened, which are closed, and what they may hold.
+//! Accounts while a ledger is booked: which are opened, which are closed, what they may hold, and
+//! how they choose among their lots.
 //!
 //! ```text
 //! // 2014-01-01 open Assets:Cash USD
@@ -29,6 +30,9 @@
 //! an account with such an end was found last; a posting also looks for its currency among those that
 //! the account's open lists, through all of them where they are few, else in a table. Memory is taken
 //! for each account, and for each currency of its open.
+//!
+//! [`Methods`] knows the booking method of each account, by a look-up.
+//!
 //! A posting is told a number at which what else is kept of its account is looked for first, mostly
 //! without a look-up; nothing rests on it. It is given the name that the open wrote too, so that all
 //! postings on an account lend their names from one place.
@@ -38,10 +42,12 @@ mod accounts;
 mod currencies;
 mod life;
 mod method;
+mod methods;
 mod step;
 
 pub use accounts::Accounts;
 pub use currencies::Currencies;
 pub use life::Life;
 pub use method::method_named;
+pub use methods::Methods;
 pub use step::Step;

@@ -10,7 +10,7 @@ use Rattle.bean_pad.specs.Following.{Follows, steps_in}
 use Rattle.bean_pad.specs.declared.step.Step.{Step}
 use Rattle.bean_holdings.specs.Holdings as holdings
 use Rattle.bean_holdings.specs.Holdings.{AreHeld, additions_in}
-use Rattle.bean_transactions.specs.Methods.{method_in}
+use Rattle.bean_accounts.specs.Methods.{method_in}
 use Rattle.bean_replay.specs.Stand.{LeadsTo, Stand, account_steps, postings_of, steps_of_postings}
 use Rattle.bean_replay.specs.Watched.{unseen_of}
 use Rattle.bean_replay.specs.declared.booker.Booker.{Booker}

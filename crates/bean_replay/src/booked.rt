@@ -12,7 +12,7 @@ ghost use Rattle.bean_loaded.specs.Limited.{IsSmall};
 ghost use Rattle.bean_loaded.specs.declared.placed.Placed as places;
 ghost use Rattle.bean_directives.specs.declared.directive.Directive as directives;
 ghost use Rattle.bean_reductions.specs.declared.reduction.Method.{Method};
-ghost use Rattle.bean_transactions.specs.Methods.{method_in};
+ghost use Rattle.bean_accounts.specs.Methods.{method_in};
 
 use crate::asks::Asks;
 use crate::booker::Booker;
@@ -21,11 +21,11 @@ use crate::cause::BookCause;
 use crate::handed::take_into;
 use crate::methods::{methods_of, note_unknown, otherwise};
 use crate::steps::are_watched;
+use bean_accounts::Methods;
 use bean_base::{Fault, List};
 use bean_directives::ApartDirective;
 use bean_loaded::{Loaded, Placed};
 use bean_pad::NotedPad;
-use bean_transactions::Methods;
 use refusals::Refusal;
 use std::alloc::{AllocError, Global};
 

@@ -1,15 +1,14 @@
 //! The booking methods of a ledger's accounts.
 ghost use Rattle.std.specs.Prelude.{◌≡◌, ◌++◌, List, ℕ, OnOk, IfOk};
 ghost use Rattle.bean_replay.specs.Method as spec;
-ghost use Rattle.bean_transactions.specs.Methods.{method_in};
+ghost use Rattle.bean_accounts.specs.Methods.{method_in};
 
 use crate::placed::kind_of;
-use bean_accounts::method_named;
+use bean_accounts::{Methods, method_named};
 use bean_base::{Fault, FaultKind, Text};
 use bean_directives::{ApartDirective, DirectiveKind};
 use bean_loaded::{MethodLine, Placed};
 use bean_reductions::Method;
-use bean_transactions::Methods;
 use std::alloc::{AllocError, Global};
 
 /// The method once a line is read.

@@ -28,11 +28,11 @@ use Rattle.bean_transactions.specs.Lined.{AreLined, IsFirstFault, IsInBraces, Is
 use Rattle.bean_transactions.specs.Lined.{IsLinedByUnits, IsNext, IsReduced, Setting, is_reduction}
 use Rattle.bean_transactions.specs.Lined.{reduces}
 use Rattle.bean_transactions.specs.Lines.{IsSettled}
-use Rattle.bean_transactions.specs.Methods.{method_in}
+use Rattle.bean_accounts.specs.Methods.{method_in}
 use Rattle.bean_transactions.specs.Outcome.{ComesOf, StopsAt}
 use Rattle.bean_holdings.specs.declared.holdings.Holdings.{Holdings}
 use Rattle.bean_transactions.specs.declared.line.Line.{Line}
-use Rattle.bean_transactions.specs.declared.methods.Methods.{Methods}
+use Rattle.bean_accounts.specs.declared.methods.Methods.{Methods}
 use Rattle.bean_transactions.specs.declared.outcome.Outcome.{Outcome}
 use Rattle.bean_transactions.specs.declared.setting.Head.{Head}
 use Rattle.refusals.specs.declared.refusal.Refusal.{Refusal}

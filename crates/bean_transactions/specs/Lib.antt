@@ -1,5 +1,4 @@
 pub mod Held
-pub mod Methods
 pub mod Stock
 pub mod Lined
 pub mod Outcome

@@ -7,11 +7,11 @@ use Rattle.bean_transactions.specs.Held.{takes_in}
 use Rattle.bean_holdings.specs.Holdings.{AreHeld}
 use Rattle.bean_holdings.specs.Takes.{AreWithin, HasTaken}
 use Rattle.bean_transactions.specs.Lined.{Setting}
-use Rattle.bean_transactions.specs.Methods.{method_in}
+use Rattle.bean_accounts.specs.Methods.{method_in}
 use Rattle.bean_holdings.specs.declared.holdings.Holdings.{Holdings}
 use Rattle.bean_transactions.specs.declared.line.Line.{Line}
 use Rattle.bean_transactions.specs.declared.lines.Lines.{Lines}
-use Rattle.bean_transactions.specs.declared.methods.Methods.{Methods}
+use Rattle.bean_accounts.specs.declared.methods.Methods.{Methods}
 use Rattle.bean_transactions.specs.declared.setting.Head.{Head}
 use Rattle.bean_transactions.specs.declared.stop.LineFault.{LineFault}
 

@@ -67,7 +67,6 @@ mod laws;
 mod legs;
 mod line;
 mod lines;
-mod methods;
 mod outcome;
 mod plain;
 mod setting;
@@ -77,7 +76,6 @@ mod trial;
 
 pub use legs::whole;
 pub use line::{Line, Tried};
-pub use methods::Methods;
 pub use setting::Head;
 pub use stop::LineFault;
 pub use trial::{balances, try_transaction};

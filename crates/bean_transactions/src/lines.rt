@@ -15,11 +15,11 @@ ghost use Rattle.bean_holdings.specs.declared.holdings.Holdings as holdings;
 ghost use Rattle.bean_transactions.specs.declared.line.Line.{Line};
 
 use crate::line::Line;
-use crate::methods::Methods;
 use crate::outcome::{Outcome, outcome_of};
 use crate::setting::Head;
 use crate::stock::Stock;
 use crate::stop::LineFault;
+use bean_accounts::Methods;
 use bean_holdings::{Holdings, Takes};
 use bean_inventories::Inventory;
 use bean_postings::{Cost, WrittenPosting};

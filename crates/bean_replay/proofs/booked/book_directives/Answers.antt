@@ -3,7 +3,7 @@ use Rattle.std.proofs.lemmas.Result.{IfOk-weaker}
 use Rattle.std.specs.List.{AllByRecursion}
 use Rattle.limits.specs.declared.counts.TheConstants.{MOST_POSTINGS}
 use Rattle.bean_loaded.specs.Limited.{IsSmall}
-use Rattle.bean_transactions.specs.Methods.{method_in}
+use Rattle.bean_accounts.specs.Methods.{method_in}
 use Rattle.bean_replay.specs.Booked.{IsBooked, IsFinished, method_in_ledger}
 use Rattle.bean_replay.specs.Method as spec
 use Rattle.bean_replay.specs.Small.{IsSmallNoted}

@@ -3,7 +3,7 @@ use Rattle.std.proofs.Common.{append_assoc, length, length-append, ◌∙◌}
 use Rattle.std.proofs.lemmas.List.{append-nil, length-reverse, reverse-append}
 use Rattle.std.specs.List.{AllByRecursion}
 use Rattle.bean_loaded.specs.Limited.{IsSmall}
-use Rattle.bean_transactions.specs.Methods.{method_in}
+use Rattle.bean_accounts.specs.Methods.{method_in}
 use Rattle.bean_replay.proofs.FullFacts.{fault_of, full_for_good}
 use Rattle.bean_replay.proofs.SmallListFacts.{all_behind, all_front, all_reversed}
 use Rattle.bean_replay.proofs.StepFacts.{empty}

@@ -1,7 +1,7 @@
 use Rattle.std.proofs.Common.{◌≡◌, ◌++◌, ℕ, List, reverse}
 use Rattle.std.specs.List.{AllByRecursion}
 use Rattle.bean_reductions.specs.declared.reduction.Method.{Method}
-use Rattle.bean_transactions.specs.Methods.{method_in}
+use Rattle.bean_accounts.specs.Methods.{method_in}
 use Rattle.bean_replay.specs.Booker.{IsLed}
 use Rattle.bean_replay.specs.Stand.{Stand}
 use Rattle.bean_replay.specs.Watched.{IsWatched}

@@ -1,6 +1,6 @@
 use Rattle.std.proofs.Common.{◌≡◌, ◌+◌, ◌-◌, ◌∷◌, drop, length, arith, ap, sym, ◌∙◌}
 use Rattle.bean_replay.specs.Method as spec
-use Rattle.bean_transactions.specs.Methods.{method_in}
+use Rattle.bean_accounts.specs.Methods.{method_in}
 use Rattle.bean_replay.proofs.StepFacts.{left_at}
 use Rattle.bean_replay.proofs.methods.methods_of.Goals as goal
 

@@ -1,6 +1,6 @@
 use Rattle.std.proofs.Common.{◌≡◌, ℕ, ◌-◌, List, drop, length}
 use Rattle.bean_replay.specs.Method as spec
-use Rattle.bean_transactions.specs.Methods.{method_in}
+use Rattle.bean_accounts.specs.Methods.{method_in}
 use Rattle.bean_replay.proofs.methods.methods_of.Given as goal
 
 -- what the directives say that were taken, which are the last

@@ -3,7 +3,7 @@ use Rattle.bean_holdings.specs.Holdings.{holding}
 use Rattle.bean_holdings.specs.Inventories.{inventory_in}
 use Rattle.bean_reductions.specs.After.{after}
 use Rattle.bean_transactions.specs.Held.{takes_in}
-use Rattle.bean_transactions.specs.Methods.{method_in}
+use Rattle.bean_accounts.specs.Methods.{method_in}
 use Rattle.bean_transactions.proofs.LinedFacts.{next_of}
 use Rattle.bean_holdings.proofs.TakesFacts.{small_held, small_taken}
 use Rattle.bean_transactions.proofs.WithinFacts.{within_of}

@@ -1,7 +1,7 @@
 //! How accounts choose among their lots.
 ghost use Rattle.std.specs.Prelude.{◌≡◌, List, ℕ, OnOk, if◌then◌else◌};
 ghost use Rattle.std.specs.Str.{bytes_eq};
-ghost use Rattle.bean_transactions.specs.Methods.{method_in};
+ghost use Rattle.bean_accounts.specs.Methods.{method_in};
 
 use bean_base::Account;
 use bean_reductions::Method;
