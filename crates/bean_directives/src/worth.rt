@@ -33,13 +33,13 @@ fn joined_numbers(
 fn joined<'a>(
     alloc: Global,
     is_minus: bool,
-    left: &ExactProduct<'a>,
-    right: &ExactProduct<'a>,
+    left: ExactProduct<'a>,
+    right: ExactProduct<'a>,
 ) -> Result<ExactProduct<'a>, AllocError>
-    ensures { IfOk result (λ n. n ≡ value.joined_exactly is_minus left.now right.now) }
+    ensures { IfOk result (λ n. n ≡ value.joined_exactly is_minus left.entry right.entry) }
 {
-    let left = left.number(alloc)?;
-    let right = right.number(alloc)?;
+    let left = left.into_number(alloc)?;
+    let right = right.into_number(alloc)?;
     let joined = joined_numbers(alloc, is_minus, &left, right)?;
     ExactProduct::of(alloc, joined)
 }
@@ -74,7 +74,7 @@ fn sum<'t, 'a>(
             return Ok(None);
         };
         let (right, more) = next;
-        value = joined(alloc, is_minus, &value, &right)?;
+        value = joined(alloc, is_minus, value, right)?;
         rest = more;
     }
     Ok(Some((value, rest)))
