@@ -81,9 +81,11 @@ def ledgers(everything):
     yield "one comment", filled("x", ";")
     yield "spaces", filled(" ")
     yield "line feeds", filled("\n")
+    yield "small letters", filled("a")
     yield "zeros", bytes(LARGEST)
     yield "no UTF-8", b"\xff" * LARGEST
     yield "one number", filled("9", "2014-01-01 price X ", " USD\n")
+    yield "a tolerance", filled("9", OPEN + "2014-01-02 balance Assets:A  1 ~ 1 - ", " X\n")
     yield "one account", filled(":A", "2014-01-01 open Assets", "\n")
     yield "one currency", filled("A", OPEN + deep + "1 ", "\n")
     yield "one tag", filled("a", "pushtag #", "\n")
