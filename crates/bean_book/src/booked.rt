@@ -57,8 +57,8 @@ fn book_at<'a, L: Level + 'a>(
 }
 
 /// The postings that a loaded ledger is booked as, with so much told of them and their transactions,
-/// and how many decimals its currencies show. No fault changes any of it, so none that tells of what
-/// is kept is looked for: [`find_faults`] finds them.
+/// and how many decimals its currencies show. Faults that only tell of what is booked aren't looked
+/// for: [`find_faults`] finds them.
 pub fn book<'a>(
     alloc: Global,
     loaded: Loaded<'a>,

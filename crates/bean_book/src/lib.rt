@@ -3,11 +3,10 @@
 //!
 //! ```text
 //! let loaded = load(alloc, &texts)?;
-//! let booked = book(alloc, loaded, Details::All)?;
-//! booked.ledger.len()                    // how many postings there are
-//! booked.faults.as_slice()               // by file, line and number, equal ones once
+//! let ledger = book(alloc, loaded, Details::All)?;
+//! ledger.len()                                 // how many postings there are
 //!
-//! let faults = find_faults(alloc, loaded)?;    // the same faults, where no posting is wanted
+//! let faults = find_faults(alloc, loaded)?;    // by file, line and number, equal ones once
 //! ```
 //!
 //! What the directives come to is told by [`bean_replay`]. In their order, each transaction that is
@@ -31,8 +30,8 @@
 //! What [`bean_replay`] costs, and the rows: those of a transaction are made as soon as it is booked,
 //! and nothing else of it is kept. Where pads insert rows, all are moved once, piece by piece. Rows
 //! hold slices of the ledger's texts, and no text is copied but those with an escape; what the
-//! postings of a transaction have in common stands once. [`find_faults`] makes no row, and counts
-//! those that there would be.
+//! postings of a transaction have in common stands once. [`book`] looks for no fault that only tells
+//! of what is booked, and [`find_faults`] makes no row, and counts those that there would be.
 #![tactic(auto)]
 
 mod booked;

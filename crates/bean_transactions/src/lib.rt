@@ -9,7 +9,7 @@
 //! let mut holdings = Holdings::new(alloc);        // Assets:Shares has lots of 10 at 100 USD and
 //! let mut scales = Scales::new(alloc);            // of 5 at 110 USD
 //! let head = Head { day: parse_day("2014-02-01")?, line: 7 };
-//! match try_transaction(alloc, &holdings, &methods, &mut scales, spare, head, postings) {
+//! match try_transaction(alloc, &holdings, &methods, &mut scales, spare, head, postings, true) {
 //!     // -10 X at 100 USD, -2 X at 110 USD, 1300.00 USD, and -80.00 USD for Income:Gain
 //!     Ok(tried) => book(tried.posted),
 //!     Err(Refusal::Refused(fault)) => report(fault),
@@ -49,6 +49,7 @@
 //! One thing comes of a transaction: its postings or its fault, by a law of this crate. Whether one
 //! that is kept balances is told by [`balances`], and with the trial where no posting has a cost or
 //! lacks something, or the last its amount alone: it is booked as it is written, and weighed once.
+//! Where that isn't asked, and nothing stands beside the units of its postings, it isn't weighed.
 //!
 //! # Cost
 //!
