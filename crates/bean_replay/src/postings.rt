@@ -35,8 +35,8 @@ fn place_in(at: Place, postings: &[WrittenPosting<'_>], written: usize) -> Place
 }
 
 /// Adds the faults of a booked posting, if they are asked for, and the posting to what its account
-/// holds. Its account is named as the open of the account wrote it then. The account's place among those that were opened
-/// tells it apart from others where it holds something.
+/// holds. Its account is named as the open of the account wrote it then. The account's place among
+/// those that were opened tells it apart from others where it holds something.
 fn book_posting<'a>(
     alloc: Global,
     accounts: &mut Accounts<'a>,
@@ -71,8 +71,8 @@ fn book_posting<'a>(
     holdings.post(alloc, posted, near)
 }
 
-/// Adds the faults of all booked postings of a transaction, if they are asked for, and the postings to what their accounts
-/// hold, which are named as they were opened.
+/// Adds the faults of all booked postings of a transaction, if they are asked for, and the postings
+/// to what their accounts hold, which are named as they were opened.
 pub(crate) fn book_postings<'a>(
     alloc: Global,
     accounts: &mut Accounts<'a>,
