@@ -1,1 +1,2 @@
 pub mod CurrencyFacts
+pub mod LogFacts

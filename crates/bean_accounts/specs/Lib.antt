@@ -4,3 +4,4 @@ pub mod Method
 pub mod Methods
 pub mod Faults
 pub mod Kept
+pub mod Log

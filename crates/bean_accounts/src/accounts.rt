@@ -1,5 +1,5 @@
 //! Accounts, as far as opens and closes came.
-ghost use Rattle.std.specs.Prelude.{◌≡◌, ◌∷◌, ◌++◌, [], IfSome, OnOk, None, if◌then◌else◌, not, true};
+ghost use Rattle.std.specs.Prelude.{◌≡◌, ◌∷◌, ◌++◌, [], IfSome, OnOk, None, if◌then◌else◌, not};
 ghost use Rattle.std.specs.Prelude as prelude;
 ghost use Rattle.std.specs.Str.{bytes_eq};
 ghost use Rattle.std.specs.Option.{option_map};
@@ -7,10 +7,12 @@ ghost use Rattle.bean_accounts.specs.Faults as spec;
 ghost use Rattle.bean_accounts.specs.Faults.{faults_at};
 ghost use Rattle.bean_accounts.specs.Kept.{IsKept, life_in};
 ghost use Rattle.bean_accounts.specs.Life as lives;
+ghost use Rattle.bean_accounts.specs.Log.{with_found};
 ghost use Rattle.bean_accounts.specs.declared.step.Step.{Step};
 ghost use Rattle.bean_accounts.specs.declared.step.Step.TheVariants as step;
 
 use crate::life::Life;
+use crate::log::FaultLog;
 use crate::method::method_named;
 use bean_base::{Account, Currency, Fault, FaultKind, Place, Text};
 use byte_runs::Hints;
@@ -22,30 +24,30 @@ fn note_if(
     is_fault: bool,
     kind: FaultKind,
     at: Place,
-    faults: &mut Vec<Fault>,
+    faults: &mut FaultLog,
 ) -> Result<(), AllocError>
-    ensures { OnOk result (faults.new.items
-        ≡ faults.old.items ++ faults_at at (spec.kind_if is_fault kind)) }
+    ensures { OnOk result (faults.new
+        ≡ with_found (faults_at at (spec.kind_if is_fault kind)) faults.old) }
 {
     if is_fault {
-        faults.push(Fault { kind, place: at })?;
+        faults.add(Fault { kind, place: at })?;
     }
     Ok(())
 }
 
-/// Adds the faults of a posting on an account of which this is known, if they are asked for: F7, F8.
+/// Adds the faults of a posting on an account of which this is known: F7, F8.
 fn note_life(
     life: &Life<'_>,
     currency: &Currency<'_>,
     at: Place,
-    asked: bool,
-    faults: &mut Vec<Fault>,
+    faults: &mut FaultLog,
 ) -> Result<(), AllocError>
-    ensures { asked ≡ true → OnOk result (faults.new.items ≡ faults.old.items
-        ++ faults_at at (spec.kind_if life.now.is_closed FaultKind.AccountClosed
-        ++ spec.kind_if (not (lives.allows life.now currency.now)) FaultKind.CurrencyNotAllowed)) }
+    ensures { OnOk result (faults.new ≡ with_found (faults_at at
+        (spec.kind_if life.now.is_closed FaultKind.AccountClosed
+        ++ spec.kind_if (not (lives.allows life.now currency.now)) FaultKind.CurrencyNotAllowed))
+        faults.old) }
 {
-    if !asked {
+    if !faults.is_kept() {
         return Ok(());
     }
     note_if(life.is_closed, FaultKind::AccountClosed, at, faults)?;
@@ -149,26 +151,25 @@ impl<'a> Accounts<'a> {
         account: &mut Account<'a>,
         currency: &Currency<'_>,
         at: Place,
-        asked: bool,
-        faults: &mut Vec<Fault>,
+        faults: &mut FaultLog,
     ) -> Result<usize, AllocError>
         ensures account { account.new ≡ account.old }
         ensures lives { self.new.lives ≡ self.old.lives }
-        ensures faults { (past : prelude.List Step) → IsKept past self.old → asked ≡ true
-            → OnOk result (faults.new.items ≡ faults.old.items
-            ++ faults_at at (spec.of_posting account.old currency.now past)) }
+        ensures faults { (past : prelude.List Step) → IsKept past self.old
+            → OnOk result (faults.new
+            ≡ with_found (faults_at at (spec.of_posting account.old currency.now past)) faults.old) }
     {
         let Some((place, opened, life)) = self.lives.get_full(&*account) else {
-            note_if(asked, FaultKind::AccountNotOpen, at, faults)?;
+            note_if(true, FaultKind::AccountNotOpen, at, faults)?;
             return Ok(0);
         };
-        note_life(life, currency, at, asked, faults)?;
+        note_life(life, currency, at, faults)?;
         self.hints.note(account.text(), place);
         *account = opened.lend();
         Ok(place)
     }
 
-    /// Adds the faults of a posting, if they are asked for: F6, F7, F8. Where its account was opened, the name becomes the
+    /// Adds the faults of a posting: F6, F7, F8. Where its account was opened, the name becomes the
     /// one that the open wrote: these are the same bytes, which all postings on the account lend
     /// from one place then. It gives a number at which what else is kept of the account may be
     /// looked for first: nothing rests on it, and no clause says what it is.
@@ -177,20 +178,19 @@ impl<'a> Accounts<'a> {
         account: &mut Account<'a>,
         currency: &Currency<'_>,
         at: Place,
-        asked: bool,
-        faults: &mut Vec<Fault>,
+        faults: &mut FaultLog,
     ) -> Result<usize, AllocError>
         ensures account { account.new ≡ account.old }
         ensures kept { (past : prelude.List Step) → IsKept past self.old → IsKept past self.new }
-        ensures faults { (past : prelude.List Step) → IsKept past self.old → asked ≡ true
-            → OnOk result (faults.new.items ≡ faults.old.items
-            ++ faults_at at (spec.of_posting account.old currency.now past)) }
+        ensures faults { (past : prelude.List Step) → IsKept past self.old
+            → OnOk result (faults.new
+            ≡ with_found (faults_at at (spec.of_posting account.old currency.now past)) faults.old) }
     {
         let place = self.hints.place_for(account.text());
         let Some((opened, life)) = self.opened_at(place, account) else {
-            return self.note_elsewhere(account, currency, at, asked, faults);
+            return self.note_elsewhere(account, currency, at, faults);
         };
-        note_life(life, currency, at, asked, faults)?;
+        note_life(life, currency, at, faults)?;
         *account = opened.lend();
         Ok(place)
     }
@@ -200,11 +200,11 @@ impl<'a> Accounts<'a> {
         &self,
         account: &Account<'_>,
         at: Place,
-        faults: &mut Vec<Fault>,
+        faults: &mut FaultLog,
     ) -> Result<(), AllocError>
         ensures { (past : prelude.List Step) → IsKept past self.now
-            → OnOk result (faults.new.items ≡ faults.old.items
-            ++ faults_at at (spec.of_use account.now past)) }
+            → OnOk result (faults.new
+            ≡ with_found (faults_at at (spec.of_use account.now past)) faults.old) }
     {
         note_if(
             !self.is_opened(account),
@@ -220,11 +220,11 @@ impl<'a> Accounts<'a> {
         account: &Account<'_>,
         method: &Option<Text<'_>>,
         at: Place,
-        faults: &mut Vec<Fault>,
+        faults: &mut FaultLog,
     ) -> Result<(), AllocError>
         ensures { (past : prelude.List Step) → IsKept past self.now
-            → OnOk result (faults.new.items ≡ faults.old.items
-            ++ faults_at at (spec.of_open account.now method.now past)) }
+            → OnOk result (faults.new
+            ≡ with_found (faults_at at (spec.of_open account.now method.now past)) faults.old) }
     {
         if self.is_opened(account) {
             return note_if(true, FaultKind::OpenedTwice, at, faults);
@@ -237,11 +237,11 @@ impl<'a> Accounts<'a> {
         &self,
         account: &Account<'_>,
         at: Place,
-        faults: &mut Vec<Fault>,
+        faults: &mut FaultLog,
     ) -> Result<(), AllocError>
         ensures { (past : prelude.List Step) → IsKept past self.now
-            → OnOk result (faults.new.items ≡ faults.old.items
-            ++ faults_at at (spec.of_close account.now past)) }
+            → OnOk result (faults.new
+            ≡ with_found (faults_at at (spec.of_close account.now past)) faults.old) }
     {
         let is_open = self.is_opened(account) && !self.is_closed(account);
         note_if(!is_open, FaultKind::ClosedButNotOpen, at, faults)

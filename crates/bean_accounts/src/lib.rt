@@ -5,10 +5,11 @@
 //! // 2014-01-01 open Assets:Cash USD
 //! // 2014-03-01 close Assets:Cash
 //! let mut accounts = Accounts::new(alloc);
+//! let mut faults = FaultLog::new(alloc);
 //! accounts.open(alloc, &cash, &[usd])?;
-//! accounts.note_posting(&mut cash, &eur, at, true, &mut faults)?; // F8
+//! accounts.note_posting(&mut cash, &eur, at, &mut faults)?; // F8
 //! accounts.close(&cash);
-//! accounts.note_posting(&mut cash, &usd, at, true, &mut faults)?; // F7
+//! accounts.note_posting(&mut cash, &usd, at, &mut faults)?; // F7
 //! ```
 //!
 //! [`Accounts`] are told of opens and closes one after the other. The first open of an account
@@ -23,6 +24,8 @@
 //! - `F9`, of an open of an account that was opened before,
 //! - `F10`, of a close of an account that isn't open,
 //! - `F23`, of a first open with the name of no method. [`method_named`] knows those there are.
+//!
+//! They go to a [`FaultLog`], which keeps them where anyone asks for them, and else stays as it is.
 //!
 //! # Cost
 //!
@@ -41,6 +44,7 @@
 mod accounts;
 mod currencies;
 mod life;
+mod log;
 mod method;
 mod methods;
 mod step;
@@ -48,6 +52,7 @@ mod step;
 pub use accounts::Accounts;
 pub use currencies::Currencies;
 pub use life::Life;
+pub use log::FaultLog;
 pub use method::method_named;
 pub use methods::Methods;
 pub use step::Step;

@@ -1,4 +1,5 @@
 //! A loaded ledger as it is booked, and its faults.
+ghost use Rattle.bean_accounts.specs.declared.log.FaultLog.TheVariants as log;
 ghost use Rattle.bean_book.specs.Booked.{Books};
 ghost use Rattle.bean_book.specs.Found.{FindsFaults};
 ghost use Rattle.bean_book.specs.Taken.{as_rows};
@@ -6,13 +7,13 @@ ghost use Rattle.bean_loaded.specs.Loaded as loading;
 ghost use Rattle.bean_replay.specs.Booked.{IsBooked};
 ghost use Rattle.bean_replay.specs.Small.{IsSmallNoted};
 ghost use Rattle.std.specs.List.{AllByRecursion};
-ghost use Rattle.std.specs.Prelude.{false};
 
 use crate::counts::{RowCount, count_pads};
 use crate::details::Details;
 use crate::faults::report;
 use crate::ledger::{LedgerRows, ToldRows, with_pads};
 use crate::level::{AccountsAreUntold, AllIsTold, FewAreTold, Level};
+use bean_accounts::FaultLog;
 use bean_base::{Fault, List};
 use bean_loaded::Loaded;
 use bean_replay::{BookCause, book_directives};
@@ -25,9 +26,9 @@ fn finish<'a>(
     details: Details,
     booked: bean_replay::Booked<'a, LedgerRows<'a>>,
 ) -> Result<Ledger<'a>, Refusal<BookCause>>
-    requires booked { (l : loading.Loaded) × IsBooked (as_rows details) false l booked }
+    requires booked { (l : loading.Loaded) × IsBooked (as_rows details) log.Off l booked }
     requires small { AllByRecursion IsSmallNoted booked.pads }
-    ensures { (l : loading.Loaded) → IsBooked (as_rows details) false l booked.entry
+    ensures { (l : loading.Loaded) → IsBooked (as_rows details) log.Off l booked.entry
         → Books details l result }
 {
     with_pads(details, booked.bookings, booked.pads.into_vec())
@@ -43,7 +44,7 @@ fn book_at<'a, L: Level + 'a>(
 {
     let details = level.details();
     let rows = LedgerRows::new(alloc)?;
-    let booked = match book_directives(alloc, loaded, false, ToldRows { rows, level }) {
+    let booked = match book_directives(alloc, loaded, FaultLog::Off, ToldRows { rows, level }) {
         Ok(booked) => booked,
         Err(fault) => return Err(fault),
     };
@@ -78,7 +79,8 @@ pub fn book<'a>(
 pub fn find_faults(alloc: Global, loaded: Loaded<'_>) -> Result<List<Fault>, Refusal<BookCause>>
     ensures { FindsFaults loaded.entry result }
 {
-    let booked = match book_directives(alloc, loaded, true, RowCount { count: 0 }) {
+    let log = FaultLog::new(alloc);
+    let booked = match book_directives(alloc, loaded, log, RowCount { count: 0 }) {
         Ok(booked) => booked,
         Err(fault) => return Err(fault),
     };
@@ -86,7 +88,7 @@ pub fn find_faults(alloc: Global, loaded: Loaded<'_>) -> Result<List<Fault>, Ref
         Ok(_) => {}
         Err(fault) => return Err(fault),
     }
-    let mut faults = booked.faults.into_vec();
+    let mut faults = booked.faults.into_found(alloc).into_vec();
     report(&mut faults)?;
     Ok(List::new(faults))
 }

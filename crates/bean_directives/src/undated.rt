@@ -9,8 +9,8 @@ use bean_base::Text;
 use bean_grammar::entry::entry;
 use bean_grammar::front::{after_key, after_tag, next};
 use bean_grammar::literal::{text, text_if_due};
-use bean_grammar::{MetaEntry, Ranged};
-use bean_lexer::{Keyword, Kind, MetaKey, Tag, Token};
+use bean_grammar::{MetaEntry, MetaKey, Ranged, Tag};
+use bean_lexer::{Keyword, Kind, Token};
 
 /// What a ledger says of itself, and which other texts belong to it.
 #[derive(Drop)]

@@ -14,9 +14,10 @@ use crate::expression::expression;
 use crate::front::{after_key, behind_sign, next};
 use crate::literal::{between_quotes, day_of};
 use crate::metadata::{MetaEntry, Value};
+use crate::names::{MetaKey, Tag};
 use crate::ranged::Ranged;
 use bean_base::{Account, Amount, Currency, Day, List, Num, Text};
-use bean_lexer::{Keyword, Kind, MetaKey, Tag, Token};
+use bean_lexer::{Keyword, Kind, Token};
 use std::alloc::{AllocError, Global};
 
 /// The tokens that are still to be read.

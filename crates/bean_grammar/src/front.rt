@@ -12,8 +12,9 @@ ghost use Rattle.bean_grammar.specs.Lexeme.{begins_with_tag, begins_with_link, b
 ghost use Rattle.bean_grammar.specs.Lexeme.{begins_with_keyword, begins_with_sign};
 ghost use Rattle.bean_grammar.specs.Lexeme.{begins_with_plus_or_minus};
 
+use crate::names::{Link, MetaKey, Tag};
 use bean_base::{Account, Currency};
-use bean_lexer::{Keyword, Kind, Link, MetaKey, Sign, Tag, Token};
+use bean_lexer::{Keyword, Kind, Sign, Token};
 
 /// The first token, and what stands behind it.
 pub fn next<'t, 'a>(tokens: &'t [Token<'a>]) -> Option<(&'t Token<'a>, &'t [Token<'a>])>

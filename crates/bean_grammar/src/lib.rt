@@ -19,7 +19,8 @@
 //! # Cost
 //!
 //! Linear in the tokens. Expressions are read to their values with no tree, and nest at most 200
-//! deep. What takes memory: lists of tags, links and values.
+//! deep. What takes memory: lists of tags, links and values. What these name ([`Tag`], [`Link`], [`MetaKey`])
+//! is a slice of a token.
 #![tactic(auto)]
 
 pub mod amount;
@@ -30,10 +31,12 @@ mod grammar;
 pub mod literal;
 pub mod mark;
 mod metadata;
+mod names;
 pub mod number;
 mod ranged;
 
 pub use amount::AmountParts;
 pub use mark::Mark;
 pub use metadata::{MetaEntry, Value};
+pub use names::{Link, MetaKey, Tag};
 pub use ranged::Ranged;

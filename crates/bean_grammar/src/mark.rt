@@ -6,8 +6,9 @@ ghost use Rattle.bean_grammar.specs.Mark as rule;
 ghost use Rattle.bean_grammar.specs.Mark.{begins_with_mark};
 
 use crate::front::{after_link, after_tag, next};
+use crate::names::{Link, Tag};
 use bean_base::List;
-use bean_lexer::{Link, Tag, Token};
+use bean_lexer::Token;
 use std::alloc::{AllocError, Global};
 
 /// A tag or a link.

@@ -1,8 +1,8 @@
 //! Metadata: entries of a key and a value.
 ghost use Rattle.std.specs.Prelude.{◌≡◌};
 
+use crate::names::{MetaKey, Tag};
 use bean_base::{Account, Amount, Currency, Day, Num, Text};
-use bean_lexer::{MetaKey, Tag};
 
 /// The value of a metadata entry, or of a custom directive, which has no `Nothing`.
 #[derive(Drop)]

@@ -71,11 +71,6 @@ narrow_with legs leg c range fits = subst IsNarrow (sym (residual_push legs leg 
     by MissingAmount f =
         subst (λ ws. IsNarrow (sum_in ws c)) (sym (append-nil (weighed legs))) before
 
-light_push : (legs : List Leg) (leg : Leg) → AllByRecursion IsLight legs → IsLight leg
-    → AllByRecursion IsLight (legs ++ leg ∷ [])
-light_push [] leg all light = (light, tt)
-light_push (l ∷ legs) leg all light = (all.0, light_push legs leg all.1 light)
-
 is_light : (es : List Weighed) (leg : Leg) → Fits es leg → IsLight leg
 is_light es (Whole w) fits = fits.0
 is_light es (MissingNumber c) fits = tt
@@ -84,7 +79,7 @@ is_light es MissingAmount fits = tt
 range_push : (legs : List Leg) (leg : Leg) → AreInRange legs → Fits (table (weighed legs)) leg
     → AreInRange (legs ++ leg ∷ [])
 range_push legs leg range fits = record {
-  light = light_push legs leg range.light (is_light (table (weighed legs)) leg fits);
+  light = all_pushed IsLight legs leg range.light (is_light (table (weighed legs)) leg fits);
   sums = λ k c. at k c (nat_le k (length legs)) refl;
 }
   where

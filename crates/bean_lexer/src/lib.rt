@@ -12,8 +12,7 @@
 //! ```
 //!
 //! A token is a slice of the text, with the place of its first byte, its line from 1, and its place
-//! in the line. A text has one list of tokens. What tags, links and keys name ([`Tag`], [`Link`],
-//! [`MetaKey`]) is a slice of their tokens.
+//! in the line. A text has one list of tokens.
 //!
 //! # What stands between tokens
 //!
@@ -37,7 +36,6 @@ mod found;
 mod gaps;
 mod kind;
 mod lexer;
-mod marks;
 mod names;
 mod tables;
 mod texts;
@@ -52,7 +50,6 @@ pub use found::{Counted, Found, on_one_line};
 pub use gaps::{Lead, Spot, gap_at};
 pub use kind::{Keyword, Kind, Place, Sign};
 pub use lexer::Lexer;
-pub use marks::{Link, MetaKey, Tag};
 pub use names::{account_at, account_or_currency, is_code};
 pub use tables::begins_token;
 pub use token::Token;

@@ -10,8 +10,7 @@ ghost use Rattle.bean_pushes.specs.declared.scope.PlacedBound as placed;
 use crate::matches::{Opens, name_in};
 use bean_base::{Fault, FaultKind, Few, Place};
 use bean_directives::{ApartDirective, Bound, Directive, DirectiveKind, Pushed};
-use bean_grammar::{Mark, MetaEntry};
-use bean_lexer::Tag;
+use bean_grammar::{Mark, MetaEntry, Tag};
 use std::alloc::{AllocError, Global};
 use std::mem::replace;
 

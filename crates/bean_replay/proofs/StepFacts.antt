@@ -6,6 +6,10 @@ use Rattle.std.proofs.Math.Seq.{take-append_seam, take-suc, drop-cons}
 use Rattle.std.proofs.lemmas.Grind.{flat_map-append}
 use Rattle.std.proofs.lemmas.List.{append-nil, map-append, reverse-append}
 use Rattle.std.specs.List.{flat_map}
+use Rattle.bean_accounts.proofs.LogFacts.{found_behind}
+use Rattle.bean_accounts.specs.Log.{with_found}
+use Rattle.bean_accounts.specs.declared.log.FaultLog.{FaultLog}
+use Rattle.bean_base.specs.declared.fault.Fault.{Fault}
 
 pub taken_more : {X : Type 0} (xs : List X) (i : ℕ) (x : X) → i < length xs → x ≡ get_or xs i x
     → take (i + 1) xs ≡ take i xs ++ x ∷ []
@@ -43,6 +47,15 @@ flat_more f xs i x before old new h e o n =
     (sym (ap (flat_map f) (taken_more xs i x h e)
     ∙ flat_map-append f (take i xs) (x ∷ [])
     ∙ ap (λ l. flat_map f (take i xs) ++ l) (append-nil (f x))))
+
+-- likewise where it goes to a log
+pub found_more : {X : Type 0} (f : X → List Fault) (xs : List X) (i : ℕ) (x : X)
+    (before old new : FaultLog) → i < length xs → x ≡ get_or xs i x
+    → old ≡ with_found (flat_map f (take i xs)) before → new ≡ with_found (f x) old
+    → new ≡ with_found (flat_map f (take (i + 1) xs)) before
+found_more f xs i x before old new h e o n =
+    n ∙ ap (with_found (f x)) o ∙ found_behind (flat_map f (take i xs)) (f x) before
+    ∙ ap (λ l. with_found l before) (sym (flat_more f xs i x [] _ _ h e refl refl))
 
 pub latest_mapped : {X Y : Type 0} (f : X → Y) (xs : List X) (i : ℕ) (x : X) → i < length xs
     → x ≡ get_or xs i x

@@ -1,6 +1,8 @@
 -- What a loaded ledger is booked as.
-use Rattle.std.specs.Prelude.{◌≡◌, ◌≤◌, ℕ, suc, Bool, true, List, [], ◌∷◌, ◌++◌, length, reverse}
+use Rattle.std.specs.Prelude.{◌≡◌, ◌≤◌, ℕ, suc, List, [], ◌∷◌, ◌++◌, length, reverse}
 use Rattle.limits.specs.declared.counts.TheConstants.{MOST_POSTINGS}
+use Rattle.bean_accounts.specs.Log.{with_found}
+use Rattle.bean_accounts.specs.declared.log.FaultLog.{FaultLog}
 use Rattle.bean_base.specs.declared.fault.Fault.{Fault}
 use Rattle.bean_loaded.specs.Loaded.{Loaded}
 use Rattle.bean_reductions.specs.declared.reduction.Method as methods
@@ -46,20 +48,20 @@ faults_of l st =
     faults_before l ++ (st.faults ++ faults_with (noted_pads st.steps) st.steps)
 
 -- what all the directives led to: what is booked was taken, what comes of the pads, and the faults
--- where they are told
-pub record IsFinished {S : Type 0} (o : BookingsOf S) (told : Bool) (l : Loaded) (st : Stand)
+-- behind those before, where anyone asks
+pub record IsFinished {S : Type 0} (o : BookingsOf S) (before : FaultLog) (l : Loaded) (st : Stand)
     (b : declared.Booked S) : Type 0 where
   pub taken : o.has_taken b.bookings st.drafts
   pub pads_are : b.pads ≡ noted_pads st.steps
-  pub faults_are : told ≡ true → b.faults ≡ faults_of l st
+  pub faults_are : b.faults ≡ with_found (faults_of l st) before
 
 -- the transactions that are kept have no more postings than a ledger may have
-pub record IsBooked {S : Type 0} (o : BookingsOf S) (told : Bool) (l : Loaded) (b : declared.Booked S)
-    : Type 0 where
+pub record IsBooked {S : Type 0} (o : BookingsOf S) (before : FaultLog) (l : Loaded)
+    (b : declared.Booked S) : Type 0 where
   pub stand : Stand
   pub leads : LeadsTo (method_in_ledger l) (reverse l.directives) stand
   pub few : length (postings_of stand.drafts) ≤ MOST_POSTINGS
-  pub finished : IsFinished o told l stand b
+  pub finished : IsFinished o before l stand b
 
 -- the transactions that are kept have more postings than a ledger may have
 abbrev pub HasTooMany : Loaded → Type 0

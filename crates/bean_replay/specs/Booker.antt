@@ -1,7 +1,8 @@
 -- What is kept while directives are taken.
-use Rattle.std.specs.Prelude.{◌≡◌, ◌≤◌, ◌+◌, ◌^◌, ℕ, true, List, [], ◌∷◌, ◌++◌, length, Option, Some, None}
+use Rattle.std.specs.Prelude.{◌≡◌, ◌≤◌, ◌+◌, ◌^◌, ℕ, Bool, List, [], ◌∷◌, ◌++◌, length, Option, Some, None}
 use Rattle.limits.specs.declared.counts.TheConstants.{MOST_POSTINGS}
 use Rattle.bean_accounts.specs.Kept as accounts
+use Rattle.bean_accounts.specs.Log.{asked_for, is_kept}
 use Rattle.bean_directives.specs.declared.directive.Directive.{Directive}
 use Rattle.bean_loaded.specs.declared.placed.Placed.{Placed}
 use Rattle.bean_reductions.specs.declared.reduction.Method.{Method}
@@ -16,6 +17,10 @@ use Rattle.bean_replay.specs.Watched.{unseen_of}
 use Rattle.bean_replay.specs.declared.booker.Booker.{Booker}
 use Rattle.bean_replay.specs.declared.booking.Draft.{Draft}
 use Rattle.bean_replay.specs.declared.bookings.Bookings.{Ghosts as BookingsOf}
+
+-- whether postings are watched, and whether faults are kept
+abbrev pub asks : Booker → Bool × Bool
+asks b = (b.watched, is_kept b.faults)
 
 -- so many directives, and as many postings as a ledger may have, can't have made a sum too great
 pub record HasRoom (n : ℕ) (b : Booker) : Type 0 where
@@ -33,8 +38,8 @@ pub record IsStanding (m : List ℕ → Method) (past : List (Placed Directive))
   pub count : additions_in b.holdings ≡ length (postings_of st.drafts)
   pub seen : List Step
   pub follows : Follows seen b.padder
-  pub steps_are : st.steps ≡ steps_of_postings (unseen_of b.asks.watched (postings_of st.drafts)) ++ seen
-  pub faults_are : b.asks.faults ≡ true → b.faults.items ≡ st.faults
+  pub steps_are : st.steps ≡ steps_of_postings (unseen_of b.watched (postings_of st.drafts)) ++ seen
+  pub faults_are : b.faults ≡ asked_for (is_kept b.faults) st.faults
   pub room : HasRoom (length past) b
 
 -- this holds of it, wherever directives led to where it stands

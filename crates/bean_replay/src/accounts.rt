@@ -3,6 +3,7 @@ ghost use Rattle.std.specs.Prelude.{◌≡◌, ◌<◌, ◌+◌, ◌^◌, ◌∷
 ghost use Rattle.std.specs.Prelude as prelude;
 ghost use Rattle.bean_accounts.specs.Faults.{faults_at, of_close, of_open, of_use};
 ghost use Rattle.bean_accounts.specs.Kept.{IsKept};
+ghost use Rattle.bean_accounts.specs.Log.{with_found};
 ghost use Rattle.bean_accounts.specs.declared.step.Step as lives;
 ghost use Rattle.bean_accounts.specs.declared.step.Step.TheVariants as life;
 ghost use Rattle.bean_lots.specs.Inventory.{has_lot};
@@ -11,8 +12,8 @@ ghost use Rattle.bean_pad.specs.declared.step.Step.{Step};
 ghost use Rattle.bean_pad.specs.declared.step.Step.TheVariants as step;
 ghost use Rattle.bean_holdings.specs.Holdings.{holding};
 
-use bean_accounts::Accounts;
-use bean_base::{Day, Fault, Place};
+use bean_accounts::{Accounts, FaultLog};
+use bean_base::{Day, Place};
 use bean_directives::{Balance, Close, Open, Pad};
 use bean_holdings::Holdings;
 use bean_inventories::Inventory;
@@ -23,7 +24,7 @@ use std::alloc::{AllocError, Global};
 pub(crate) fn take_open<'a>(
     alloc: Global,
     accounts: &mut Accounts<'a>,
-    faults: &mut Vec<Fault>,
+    faults: &mut FaultLog,
     at: Place,
     opening: &Open<'a>,
 ) -> Result<(), AllocError>
@@ -31,8 +32,9 @@ pub(crate) fn take_open<'a>(
         → OnOk result (IsKept (life.Open opening.now.account opening.now.currencies ∷ past)
         accounts.new) }
     ensures faults { (past : prelude.List lives.Step) → IsKept past accounts.old
-        → OnOk result (faults.new.items ≡ faults.old.items
-        ++ faults_at at (of_open opening.now.account opening.now.method past)) }
+        → OnOk result (faults.new
+        ≡ with_found (faults_at at (of_open opening.now.account opening.now.method past))
+        faults.old) }
 {
     accounts.note_open(&opening.account, &opening.method, at, faults)?;
     accounts.open(alloc, &opening.account, opening.currencies.as_slice())
@@ -41,15 +43,15 @@ pub(crate) fn take_open<'a>(
 /// Takes a close that is written at a place.
 pub(crate) fn take_close<'a>(
     accounts: &mut Accounts<'a>,
-    faults: &mut Vec<Fault>,
+    faults: &mut FaultLog,
     at: Place,
     close: &Close<'a>,
 ) -> Result<(), AllocError>
     ensures kept { (past : prelude.List lives.Step) → IsKept past accounts.old
         → OnOk result (IsKept (life.Close close.now.account ∷ past) accounts.new) }
     ensures faults { (past : prelude.List lives.Step) → IsKept past accounts.old
-        → OnOk result (faults.new.items ≡ faults.old.items
-        ++ faults_at at (of_close close.now.account past)) }
+        → OnOk result (faults.new
+        ≡ with_found (faults_at at (of_close close.now.account past)) faults.old) }
 {
     accounts.note_close(&close.account, at, faults)?;
     accounts.close(&close.account);
@@ -60,7 +62,7 @@ pub(crate) fn take_close<'a>(
 pub(crate) fn take_pad<'a>(
     accounts: &Accounts<'a>,
     padder: &mut Padder<'a>,
-    faults: &mut Vec<Fault>,
+    faults: &mut FaultLog,
     day: Day,
     at: Place,
     pad: &Pad<'a>,
@@ -68,9 +70,8 @@ pub(crate) fn take_pad<'a>(
     requires near { IsBounded padder.old }
     requires few { steps_in padder.old < 2 ^ 40 }
     ensures faults { (past : prelude.List lives.Step) → IsKept past accounts.now
-        → OnOk result (faults.new.items ≡ (faults.old.items
-        ++ faults_at at (of_use pad.now.account past))
-        ++ faults_at at (of_use pad.now.source past)) }
+        → OnOk result (faults.new ≡ with_found (faults_at at (of_use pad.now.account past)
+        ++ faults_at at (of_use pad.now.source past)) faults.old) }
     ensures follows { OnOk result ((past : prelude.List Step) → Follows past padder.old
         → Follows (step.Pad pad.now day at ∷ past) padder.new) }
     ensures near { OnOk result (IsBounded padder.new) }
@@ -100,15 +101,15 @@ pub(crate) fn take_balance<'a>(
     accounts: &Accounts<'a>,
     holdings: &Holdings<'a>,
     padder: &mut Padder<'a>,
-    faults: &mut Vec<Fault>,
+    faults: &mut FaultLog,
     at: Place,
     balance: &Balance<'a>,
 ) -> Result<(), AllocError>
     requires near { IsBounded padder.old }
     requires few { steps_in padder.old < 2 ^ 40 }
     ensures faults { (past : prelude.List lives.Step) → IsKept past accounts.now
-        → OnOk result (faults.new.items ≡ faults.old.items
-        ++ faults_at at (of_use balance.now.account past)) }
+        → OnOk result (faults.new
+        ≡ with_found (faults_at at (of_use balance.now.account past)) faults.old) }
     ensures follows { OnOk result ((past : prelude.List Step) → Follows past padder.old
         → Follows (step.Balance balance.now at
         (has_lot balance.now.currency (holding holdings.now balance.now.account)) ∷ past)

@@ -1,5 +1,5 @@
 //! What a ledger is booked as.
-ghost use Rattle.std.specs.Prelude.{◌≡◌, ◌≢◌, ◌≤◌, ◌^◌, ◌++◌, [], ℕ, IfOk, length, reverse};
+ghost use Rattle.std.specs.Prelude.{◌≡◌, ◌≢◌, ◌≤◌, ◌^◌, ◌++◌, [], ℕ, IfOk, OnOk, length, reverse};
 ghost use Rattle.std.specs.Prelude as prelude;
 ghost use Rattle.std.specs.List.{AllByRecursion};
 ghost use Rattle.bean_replay.specs.Booked as spec;
@@ -12,17 +12,18 @@ ghost use Rattle.bean_loaded.specs.Limited.{IsSmall};
 ghost use Rattle.bean_loaded.specs.declared.placed.Placed as places;
 ghost use Rattle.bean_directives.specs.declared.directive.Directive as directives;
 ghost use Rattle.bean_reductions.specs.declared.reduction.Method.{Method};
+ghost use Rattle.bean_accounts.specs.Log.{is_kept, with_found};
 ghost use Rattle.bean_accounts.specs.Methods.{method_in};
+ghost use Rattle.bean_accounts.specs.declared.log.FaultLog as logs;
 
-use crate::asks::Asks;
 use crate::booker::Booker;
 use crate::bookings::Bookings;
 use crate::cause::BookCause;
 use crate::handed::take_into;
 use crate::methods::{methods_of, note_unknown, otherwise};
 use crate::steps::are_watched;
-use bean_accounts::Methods;
-use bean_base::{Fault, List};
+use bean_accounts::{FaultLog, Methods};
+use bean_base::List;
 use bean_directives::ApartDirective;
 use bean_loaded::{Loaded, Placed};
 use bean_pad::NotedPad;
@@ -36,8 +37,8 @@ pub struct Booked<'a, S> {
     pub bookings: S,
     /// The pads in their order, each with what comes of it.
     pub pads: List<NotedPad<'a>>,
-    /// All that is wrong, in no order, where it is told.
-    pub faults: List<Fault>,
+    /// All that is wrong, in no order, behind what the log had before, where anyone asks for it.
+    pub faults: FaultLog,
 }
 
 /// Where all directives led: what is known of what was booked, and what has taken it.
@@ -48,19 +49,19 @@ struct Led<'a, S> {
 }
 
 /// Takes all directives. Each is given up as soon as it is taken, and what is booked of it once it is
-/// handed over, small transactions many at once.
+/// handed over, small transactions many at once. Faults are kept where a log keeps them.
 fn take_all<'a, S: Bookings<'a> + Drop>(
     alloc: Global,
     methods: Methods<'a>,
     directives: Vec<Placed<ApartDirective<'a>>>,
-    tells: bool,
+    asked: &FaultLog,
     bookings: S,
 ) -> Result<Led<'a, S>, Refusal<BookCause>>
     requires few { length directives.items ≤ 2 ^ 39 }
     requires small { AllByRecursion IsSmall directives.items }
     requires new { S.has_taken bookings [] }
     ensures stands { IfOk result (λ led. Stands led.booker) }
-    ensures tells { IfOk result (λ led. led.booker.asks.faults ≡ tells) }
+    ensures asked { IfOk result (λ led. is_kept led.booker.faults ≡ is_kept asked.now) }
     ensures leads { IfOk result (λ led. (m : prelude.List ℕ → Method)
         → ((a : prelude.List ℕ) → m a ≡ method_in methods.entry a)
         → (st : Stand) × IsLed S.Bookings m (reverse directives.entry.items) st led.booker
@@ -70,11 +71,8 @@ fn take_all<'a, S: Bookings<'a> + Drop>(
         → ((a : prelude.List ℕ) → m a ≡ method_in methods.entry a) → (st : Stand)
         → LeadsTo m (reverse directives.entry.items) st → IsFull st }
 {
-    let asks = Asks {
-        watched: are_watched(&directives),
-        faults: tells,
-    };
-    let mut booker = Booker::new(alloc, methods, asks);
+    let watched = are_watched(&directives);
+    let mut booker = Booker::new(alloc, methods, watched, asked);
     let mut bookings = bookings;
     for placed in directives {
         match take_into(&mut booker, &mut bookings, placed) {
@@ -85,62 +83,72 @@ fn take_all<'a, S: Bookings<'a> + Drop>(
     Ok(Led { booker, bookings })
 }
 
-/// The faults that are told before the first directive is taken: those of texts, and those of
+/// Adds the faults that are found before the first directive is taken: those of texts, and those of
 /// lines of methods.
-fn faults_before(alloc: Global, loaded: &Loaded<'_>) -> Result<Vec<Fault>, AllocError>
-    ensures { IfOk result (λ faults. faults.items ≡ spec.faults_before loaded.now) }
+fn note_before(
+    alloc: Global,
+    loaded: &Loaded<'_>,
+    faults: &mut FaultLog,
+) -> Result<(), AllocError>
+    ensures { OnOk result (faults.new ≡ with_found (spec.faults_before loaded.now) faults.old) }
 {
-    let mut faults = Vec::new(alloc);
-    faults.extend_from_slice(loaded.faults())?;
-    note_unknown(loaded.methods(), &mut faults)?;
-    Ok(faults)
+    if !faults.is_kept() {
+        return Ok(());
+    }
+    let mut told = Vec::new(alloc);
+    told.extend_from_slice(loaded.faults())?;
+    faults.add_all(List::new(told))?;
+    note_unknown(loaded.methods(), faults)
 }
 
-/// Puts together what is found, once all directives are taken, with the faults that were told
+/// Puts together what is found, once all directives are taken, with the faults that were found
 /// before.
 fn finish<'a, S: Bookings<'a> + Drop>(
-    told: Vec<Fault>,
+    found: FaultLog,
     led: Led<'a, S>,
 ) -> Result<Booked<'a, S>, Refusal<BookCause>>
     requires { Stands led.booker }
-    ensures booked { (l : loading.Loaded) → told.items ≡ spec.faults_before l
-        → (m : prelude.List ℕ → Method)
+    ensures booked { (l : loading.Loaded) (before : logs.FaultLog)
+        → found ≡ with_found (spec.faults_before l) before
+        → is_kept led.entry.booker.faults ≡ is_kept before → (m : prelude.List ℕ → Method)
         → (past : prelude.List (places.Placed directives.Directive)) (st : Stand)
         → IsLed S.Bookings m past st led.entry.booker led.entry.bookings
-        → IfOk result (IsFinished S.Bookings led.entry.booker.asks.faults l st) }
+        → IfOk result (IsFinished S.Bookings before l st) }
     ensures full { result ≢ prelude.Err (Refusal.Refused BookCause.TooManyPostings) }
 {
     let Led { booker, bookings } = led;
     let (padder, own) = booker.into_found();
     let padded = padder.finish()?;
-    let mut faults = told;
-    faults.extend_from_slice(&own)?;
-    faults.extend_from_slice(padded.faults.as_slice())?;
+    let mut faults = found;
+    faults.join(own)?;
+    faults.add_all(padded.faults)?;
     Ok(Booked {
         bookings,
         pads: padded.pads,
-        faults: List::new(faults),
+        faults,
     })
 }
 
 /// What the directives of a loaded ledger are booked as. What is booked is handed over as soon as
-/// it is. Faults change nothing of it: where it doesn't tell them, less is looked for.
+/// it is. Faults are added to a log; they change nothing of what is booked, so where nobody asks for
+/// them less is looked for.
 pub fn book_directives<'a, S: Bookings<'a> + Drop>(
     alloc: Global,
     loaded: Loaded<'a>,
-    tells: bool,
+    faults: FaultLog,
     bookings: S,
 ) -> Result<Booked<'a, S>, Refusal<BookCause>>
     requires { S.has_taken bookings [] }
-    ensures booked { IfOk result (IsBooked S.Bookings tells loaded.entry) }
+    ensures booked { IfOk result (IsBooked S.Bookings faults.entry loaded.entry) }
     ensures small { IfOk result (λ booked. AllByRecursion IsSmallNoted booked.pads) }
     ensures full { result ≡ prelude.Err (Refusal.Refused BookCause.TooManyPostings) → HasTooMany loaded.entry }
 {
     let directives = loaded.directives();
     let methods = methods_of(alloc, otherwise(loaded.methods()), directives)?;
-    let told = faults_before(alloc, &loaded)?;
-    match take_all(alloc, methods, loaded.into_directives(), tells, bookings) {
-        Ok(led) => finish(told, led),
+    let mut faults = faults;
+    note_before(alloc, &loaded, &mut faults)?;
+    match take_all(alloc, methods, loaded.into_directives(), &faults, bookings) {
+        Ok(led) => finish(faults, led),
         Err(fault) => Err(fault),
     }
 }

@@ -3,7 +3,8 @@ ghost use Rattle.std.specs.Prelude.{◌≡◌, ◌≢◌, ◌<◌, ◌+◌, ◌�
 ghost use Rattle.std.specs.Prelude as prelude;
 ghost use Rattle.std.specs.List.{AllByRecursion};
 ghost use Rattle.limits.specs.declared.counts.TheConstants.{MOST_POSTINGS};
-ghost use Rattle.bean_replay.specs.Booker.{IsBehind, IsStanding, Stands, Wherever};
+ghost use Rattle.bean_accounts.specs.Log.{is_kept};
+ghost use Rattle.bean_replay.specs.Booker.{IsBehind, IsStanding, Stands, Wherever, asks};
 ghost use Rattle.bean_replay.specs.Stand as spec;
 ghost use Rattle.bean_replay.specs.Stand.{IsFull, IsStepBy, Stand, after_trial, setting_of, start};
 ghost use Rattle.bean_replay.specs.Watched.{IsWatched, is_watching};
@@ -20,13 +21,12 @@ ghost use Rattle.bean_holdings.specs.declared.posted.Posted as declared;
 ghost use Rattle.bean_transactions.specs.declared.stop.LineFault as trials;
 
 use crate::accounts::{take_balance, take_close, take_open, take_pad};
-use crate::asks::Asks;
 use crate::booking::{Draft, Kept};
 use crate::cause::BookCause;
 use crate::postings::{book_postings, note_balance};
 use crate::steps::show_watched;
 use crate::written::Written;
-use bean_accounts::{Accounts, Methods};
+use bean_accounts::{Accounts, FaultLog, Methods};
 use bean_base::{Day, Fault, List, Place};
 use bean_directives::{ApartDirective, DirectiveKind};
 use bean_holdings::{Holdings, Posted};
@@ -81,9 +81,11 @@ pub(crate) struct Booker<'a> {
     /// Transactions that were handed over, up to [`MANY`].
     spent: Vec<Written<'a>>,
     pub padder: Padder<'a>,
-    pub asks: Asks,
-    /// What is found of them, where they are asked for.
-    pub faults: Vec<Fault>,
+    /// Whether any directive is a pad or a balance. Where none is the padder is shown nothing, so
+    /// that such a ledger sums nothing up.
+    pub watched: bool,
+    /// Where nobody asks for faults, nothing is weighed to know whether it balances.
+    pub faults: FaultLog,
 }
 
 /// Written out, so that what gives one up needs to know nothing of what is in it.
@@ -98,19 +100,24 @@ impl Drop for Booker<'_> {
             spare: _,
             spent: _,
             padder: _,
-            asks: _,
+            watched: _,
             faults: _,
         } = self;
     }
 }
 
 impl<'a> Booker<'a> {
-    /// Before the first directive. Takes no memory.
-    pub(crate) fn new(alloc: Global, methods: Methods<'a>, asks: Asks) -> Booker<'a>
+    /// Before the first directive. It keeps faults where a log does that it is shown. Takes no memory.
+    pub(crate) fn new(
+        alloc: Global,
+        methods: Methods<'a>,
+        watched: bool,
+        asked: &FaultLog,
+    ) -> Booker<'a>
         ensures stands { (m : prelude.List ℕ → Method)
             → ((a : prelude.List ℕ) → m a ≡ method_in methods.entry a)
             → IsStanding m [] start result }
-        ensures asks { result.asks ≡ asks }
+        ensures asks { asks result ≡ (watched, is_kept asked.now) }
     {
         Booker {
             alloc,
@@ -121,8 +128,8 @@ impl<'a> Booker<'a> {
             spare: Vec::new(alloc),
             spent: Vec::new(alloc),
             padder: Padder::new(alloc),
-            asks,
-            faults: Vec::new(alloc),
+            watched,
+            faults: asked.emptied(alloc),
         }
     }
 
@@ -138,7 +145,7 @@ impl<'a> Booker<'a> {
         ensures standing { Wherever self.old (λ m past st. IfOk result (λ booked.
             IsBehind m past st (after_trial past st written.entry (Ok tried.entry.posted)) booked
             self.new)) }
-        ensures asks { OnOk result (self.new.asks ≡ self.old.asks) }
+        ensures asks { OnOk result (asks self.new ≡ asks self.old) }
         ensures full { result ≡ prelude.Err (Refusal.Refused BookCause.TooManyPostings)
             → MOST_POSTINGS < additions_in self.old.holdings + length tried.entry.posted }
     {
@@ -148,7 +155,6 @@ impl<'a> Booker<'a> {
         let at = written.place();
         let postings = written.transaction().postings.as_slice();
         note_balance(
-            self.asks.faults,
             &mut self.scales,
             &mut self.faults,
             at,
@@ -163,10 +169,9 @@ impl<'a> Booker<'a> {
             &mut self.faults,
             at,
             postings,
-            self.asks.faults,
             posted.as_mut_slice(),
         )?;
-        show_watched(self.asks.watched, &mut self.padder, posted.as_slice())?;
+        show_watched(self.watched, &mut self.padder, posted.as_slice())?;
         Ok(Some(Draft::Transaction(Kept {
             written,
             postings: List::new(posted),
@@ -182,10 +187,10 @@ impl<'a> Booker<'a> {
         ensures standing { Wherever self.old (λ m past st. IfOk result (λ booked.
             IsBehind m past st (after_trial past st written.now (prelude.Err fault)) booked
             self.new)) }
-        ensures asks { OnOk result (self.new.asks ≡ self.old.asks) }
+        ensures asks { OnOk result (asks self.new ≡ asks self.old) }
         ensures full { result ≢ prelude.Err (Refusal.Refused BookCause.TooManyPostings) }
     {
-        self.faults.push(Fault {
+        self.faults.add(Fault {
             kind: fault.kind,
             place: Place {
                 line: fault.line,
@@ -202,7 +207,7 @@ impl<'a> Booker<'a> {
             (r : prelude.Result (prelude.List declared.Posted) trials.LineFault)
             × Tries (setting_of m st written.entry) written.entry.transaction.postings r
             × IsBehind m past st (after_trial past st written.entry r) booked self.new)) }
-        ensures asks { OnOk result (self.new.asks ≡ self.old.asks) }
+        ensures asks { OnOk result (asks self.new ≡ asks self.old) }
         ensures full { result ≡ prelude.Err (Refusal.Refused BookCause.TooManyPostings)
             → Wherever self.old (λ m past st.
             (r : prelude.Result (prelude.List declared.Posted) trials.LineFault)
@@ -214,6 +219,7 @@ impl<'a> Booker<'a> {
             line: written.place().line,
         };
         let spare = replace(&mut self.spare, Vec::new(self.alloc));
+        let weighs = self.faults.is_kept();
         match try_transaction(
             self.alloc,
             &self.holdings,
@@ -222,7 +228,7 @@ impl<'a> Booker<'a> {
             spare,
             head,
             written.transaction().postings.as_slice(),
-            self.asks.faults,
+            weighs,
         ) {
             Ok(tried) => self.keep(written, tried),
             Err(Refusal::Refused(fault)) => self.drop_with(&written, fault),
@@ -238,14 +244,14 @@ impl<'a> Booker<'a> {
         kind: &DirectiveKind<'a>,
     ) -> Result<Option<Draft<'a>>, Refusal<BookCause>>
         requires stands { Stands self.old }
-        requires watched { is_watching kind.now ≡ true → self.old.asks.watched ≡ true }
+        requires watched { is_watching kind.now ≡ true → self.old.watched ≡ true }
         requires other { (t : transactions.Transaction) → kind.now ≢ kinds.Transaction t }
         ensures standing { Wherever self.old (λ m past st.
             (d : places.Placed directives.Directive) → d.item.day ≡ day → spec.place_of d ≡ place
             → d.item.kind ≡ kind.now → IfOk result (λ booked. (new : Stand)
             × IsStepBy m past st d d.item.kind new
             × IsBehind m (d ∷ past) st new booked self.new)) }
-        ensures asks { OnOk result (self.new.asks ≡ self.old.asks) }
+        ensures asks { OnOk result (asks self.new ≡ asks self.old) }
         ensures full { result ≢ prelude.Err (Refusal.Refused BookCause.TooManyPostings) }
     {
         match kind {
@@ -296,11 +302,11 @@ impl<'a> Booker<'a> {
         placed: Placed<ApartDirective<'a>>,
     ) -> Result<Option<Draft<'a>>, Refusal<BookCause>>
         requires stands { Stands self.old }
-        requires watched { IsWatched self.old.asks.watched placed }
+        requires watched { IsWatched self.old.watched placed }
         ensures standing { Wherever self.old (λ m past st. IfOk result (λ booked. (new : Stand)
             × IsStepBy m past st placed.entry placed.entry.item.kind new
             × IsBehind m (placed.entry ∷ past) st new booked self.new)) }
-        ensures asks { OnOk result (self.new.asks ≡ self.old.asks) }
+        ensures asks { OnOk result (asks self.new ≡ asks self.old) }
         ensures full { result ≡ prelude.Err (Refusal.Refused BookCause.TooManyPostings)
             → Wherever self.old (λ m past st. (new : Stand)
             → IsStepBy m past st placed.entry placed.entry.item.kind new → IsFull new) }
@@ -319,7 +325,7 @@ impl<'a> Booker<'a> {
     /// booked in its memory.
     pub(crate) fn reuse(&mut self, booked: Option<Draft<'a>>)
         ensures standing { Wherever self.old (λ m past st. IsStanding m past st self.new) }
-        ensures asks { self.new.asks ≡ self.old.asks }
+        ensures asks { asks self.new ≡ asks self.old }
     {
         if let Some(Draft::Transaction(kept)) = booked {
             self.spare = kept.postings.into_vec();
@@ -329,13 +335,13 @@ impl<'a> Booker<'a> {
 
     /// What it has found: the pads and balances, and the faults. What only served to find it is
     /// given up.
-    pub(crate) fn into_found(self) -> (Padder<'a>, Vec<Fault>)
+    pub(crate) fn into_found(self) -> (Padder<'a>, FaultLog)
         ensures { result ≡ (self.entry.padder, self.entry.faults) }
     {
         let alloc = self.alloc;
         let mut booker = self;
         let padder = replace(&mut booker.padder, Padder::new(alloc));
-        let faults = replace(&mut booker.faults, Vec::new(alloc));
+        let faults = replace(&mut booker.faults, FaultLog::Off);
         (padder, faults)
     }
 }

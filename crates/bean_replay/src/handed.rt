@@ -7,7 +7,7 @@ ghost use Rattle.bean_directives.specs.declared.directive.Directive as directive
 ghost use Rattle.bean_loaded.specs.Limited.{IsSmall};
 ghost use Rattle.bean_loaded.specs.declared.placed.Placed as places;
 ghost use Rattle.bean_reductions.specs.declared.reduction.Method.{Method};
-ghost use Rattle.bean_replay.specs.Booker.{IsLed, drafts_in};
+ghost use Rattle.bean_replay.specs.Booker.{IsLed, asks, drafts_in};
 ghost use Rattle.bean_replay.specs.Small.{IsSmallDraft};
 ghost use Rattle.bean_replay.specs.Stand.{IsFull, IsStepBy, Stand, postings_of};
 ghost use Rattle.bean_replay.specs.Watched.{IsWatched};
@@ -59,12 +59,12 @@ pub(crate) fn take_into<'a, S: Bookings<'a>>(
     requires stands { (m : List ℕ → Method) × (past : List (places.Placed directives.Directive))
         × (st : Stand) × IsLed S.Bookings m past st booker.old to.old
         × AllByRecursion IsSmall (placed ∷ past) × (length past ≤ 2 ^ 39) }
-    requires watched { IsWatched booker.old.asks.watched placed }
+    requires watched { IsWatched booker.old.watched placed }
     ensures led { (m : List ℕ → Method) (past : List (places.Placed directives.Directive))
         (st : Stand) → IsLed S.Bookings m past st booker.old to.old
         → OnOk result ((new : Stand)
         × IsLed S.Bookings m (placed.entry ∷ past) new booker.new to.new) }
-    ensures asks { OnOk result (booker.new.asks ≡ booker.old.asks) }
+    ensures asks { OnOk result (asks booker.new ≡ asks booker.old) }
     ensures full { result ≡ prelude.Err (Refusal.Refused BookCause.TooManyPostings)
         → (m : List ℕ → Method) (past : List (places.Placed directives.Directive)) (st : Stand)
         → IsLed S.Bookings m past st booker.old to.old → (new : Stand)

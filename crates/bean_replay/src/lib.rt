@@ -2,11 +2,11 @@
 //!
 //! ```text
 //! let loaded = load(alloc, &texts)?;
-//! let booked = book_directives(alloc, loaded, true, bookings)?;
+//! let booked = book_directives(alloc, loaded, FaultLog::new(alloc), bookings)?;
 //! // booked.bookings: what has taken the transactions that are kept, each with the postings that
 //! // it is booked as, and the places of pads, in the order of the directives;
 //! // booked.pads: the pads, each with what it inserts;
-//! // booked.faults: all that is wrong, since it is told
+//! // booked.faults: all that is wrong, since a log is given that keeps faults
 //! ```
 //!
 //! Directives are taken in their order. A transaction is tried against what accounts hold, by the
@@ -24,8 +24,8 @@
 //! Those of a transaction that is dropped, `F11` to `F17`; of one that is kept `F18`, where it
 //! doesn't balance, and `F6` to `F8` of its postings; `F6` of pads and balances; `F9`, `F10`; `F23`
 //! of opens and of lines of the settings; and those of pads and balances, `F17` and `F19` to `F21`.
-//! The caller says whether they are told. They change nothing of what is booked, so where they aren't
-//! it isn't asked whether transactions balance, nor whether accounts are open.
+//! They go to a log that the caller gives. They change nothing of what is booked, so where the log is
+//! off it isn't asked whether transactions balance, nor whether accounts are open.
 //!
 //! # Cost
 //!
@@ -35,7 +35,6 @@
 #![tactic(auto)]
 
 mod accounts;
-mod asks;
 mod booked;
 mod booker;
 mod booking;

@@ -1,10 +1,11 @@
 //! The booking methods of a ledger's accounts.
 ghost use Rattle.std.specs.Prelude.{◌≡◌, ◌++◌, List, ℕ, OnOk, IfOk};
 ghost use Rattle.bean_replay.specs.Method as spec;
+ghost use Rattle.bean_accounts.specs.Log.{with_found};
 ghost use Rattle.bean_accounts.specs.Methods.{method_in};
 
 use crate::placed::kind_of;
-use bean_accounts::{Methods, method_named};
+use bean_accounts::{FaultLog, Methods, method_named};
 use bean_base::{Fault, FaultKind, Text};
 use bean_directives::{ApartDirective, DirectiveKind};
 use bean_loaded::{MethodLine, Placed};
@@ -30,11 +31,11 @@ pub(crate) fn otherwise(lines: &[MethodLine<'_>]) -> Method
 }
 
 /// Adds the fault of a line that names no method.
-fn note_line(line: &MethodLine<'_>, faults: &mut Vec<Fault>) -> Result<(), AllocError>
-    ensures { OnOk result (faults.new.items ≡ faults.old.items ++ spec.unknown_of line.now) }
+fn note_line(line: &MethodLine<'_>, faults: &mut FaultLog) -> Result<(), AllocError>
+    ensures { OnOk result (faults.new ≡ with_found (spec.unknown_of line.now) faults.old) }
 {
     if method_named(&line.method).is_none() {
-        faults.push(Fault {
+        faults.add(Fault {
             kind: FaultKind::UnknownMethod,
             place: line.place,
         })?;
@@ -45,9 +46,9 @@ fn note_line(line: &MethodLine<'_>, faults: &mut Vec<Fault>) -> Result<(), Alloc
 /// Adds the faults of lines that name no method.
 pub(crate) fn note_unknown(
     lines: &[MethodLine<'_>],
-    faults: &mut Vec<Fault>,
+    faults: &mut FaultLog,
 ) -> Result<(), AllocError>
-    ensures { OnOk result (faults.new.items ≡ faults.old.items ++ spec.unknown_in lines.now) }
+    ensures { OnOk result (faults.new ≡ with_found (spec.unknown_in lines.now) faults.old) }
 {
     for line in lines {
         note_line(line, faults)?;

@@ -1,10 +1,11 @@
 //! The booked postings of a transaction.
 ghost use Rattle.std.specs.Prelude.{◌≡◌, ◌<◌, ◌≤◌, ◌+◌, ◌^◌, ◌∷◌, ◌++◌, [], IfOk, OnOk, length};
-ghost use Rattle.std.specs.Prelude.{not, slice_get, true};
+ghost use Rattle.std.specs.Prelude.{not, slice_get};
 ghost use Rattle.std.specs.Prelude as prelude;
 ghost use Rattle.std.specs.List.{AllByRecursion, flat_map};
 ghost use Rattle.bean_accounts.specs.Faults.{faults_at, kind_if};
 ghost use Rattle.bean_accounts.specs.Kept.{IsKept};
+ghost use Rattle.bean_accounts.specs.Log.{with_found};
 ghost use Rattle.bean_accounts.specs.declared.step.Step as lives;
 ghost use Rattle.bean_replay.specs.Stand as spec;
 ghost use Rattle.bean_interp.specs.Balance.{is_balanced};
@@ -13,7 +14,7 @@ ghost use Rattle.bean_holdings.specs.declared.posted.Posted as declared;
 ghost use Rattle.bean_interp.specs.Residual.{IsLight};
 ghost use Rattle.bean_transactions.specs.Tried.{KnowsBalance, booked_legs};
 
-use bean_accounts::Accounts;
+use bean_accounts::{Accounts, FaultLog};
 use bean_base::{Fault, FaultKind, Place};
 use bean_holdings::{Holdings, Posted};
 use bean_interp::Scales;
@@ -34,17 +35,16 @@ fn place_in(at: Place, postings: &[WrittenPosting<'_>], written: usize) -> Place
     }
 }
 
-/// Adds the faults of a booked posting, if they are asked for, and the posting to what its account
-/// holds. Its account is named as the open of the account wrote it then. The account's place among
-/// those that were opened tells it apart from others where it holds something.
+/// Adds the faults of a booked posting, and the posting to what its account holds. Its account is
+/// named as the open of the account wrote it then. The account's place among those that were opened
+/// tells it apart from others where it holds something.
 fn book_posting<'a>(
     alloc: Global,
     accounts: &mut Accounts<'a>,
     holdings: &mut Holdings<'a>,
-    faults: &mut Vec<Fault>,
+    faults: &mut FaultLog,
     at: Place,
     postings: &[WrittenPosting<'a>],
-    asked: bool,
     posted: &mut Posted<'a>,
 ) -> Result<(), AllocError>
     requires bounded { IsBounded holdings.old }
@@ -52,35 +52,29 @@ fn book_posting<'a>(
     ensures posted { posted.new ≡ posted.old }
     ensures kept { (past : prelude.List lives.Step) → IsKept past accounts.old
         → IsKept past accounts.new }
-    ensures faults { (past : prelude.List lives.Step) → IsKept past accounts.old → asked ≡ true
-        → OnOk result (faults.new.items ≡ faults.old.items
-        ++ spec.posted_faults past at postings.now posted.old) }
+    ensures faults { (past : prelude.List lives.Step) → IsKept past accounts.old
+        → OnOk result (faults.new
+        ≡ with_found (spec.posted_faults past at postings.now posted.old) faults.old) }
     ensures held { OnOk result ((ps : prelude.List declared.Posted) → AreHeld ps holdings.old
         → AreHeld (ps ++ posted.old ∷ []) holdings.new) }
     ensures bounded { OnOk result (IsBounded holdings.new) }
     ensures additions { OnOk result (additions_in holdings.new ≡ additions_in holdings.old + 1) }
 {
     let at = place_in(at, postings, posted.written);
-    let near = accounts.note_posting(
-        &mut posted.account,
-        &posted.units.currency,
-        at,
-        asked,
-        faults,
-    )?;
+    let near =
+        accounts.note_posting(&mut posted.account, &posted.units.currency, at, faults)?;
     holdings.post(alloc, posted, near)
 }
 
-/// Adds the faults of all booked postings of a transaction, if they are asked for, and the postings
-/// to what their accounts hold, which are named as they were opened.
+/// Adds the faults of all booked postings of a transaction, and the postings to what their accounts
+/// hold, which are named as they were opened.
 pub(crate) fn book_postings<'a>(
     alloc: Global,
     accounts: &mut Accounts<'a>,
     holdings: &mut Holdings<'a>,
-    faults: &mut Vec<Fault>,
+    faults: &mut FaultLog,
     at: Place,
     postings: &[WrittenPosting<'a>],
-    asked: bool,
     posted: &mut [Posted<'a>],
 ) -> Result<(), AllocError>
     requires bounded { IsBounded holdings.old }
@@ -88,9 +82,9 @@ pub(crate) fn book_postings<'a>(
     ensures posted { OnOk result (posted.new ≡ posted.old) }
     ensures kept { (past : prelude.List lives.Step) → IsKept past accounts.old
         → IsKept past accounts.new }
-    ensures faults { (past : prelude.List lives.Step) → IsKept past accounts.old → asked ≡ true
-        → OnOk result (faults.new.items ≡ faults.old.items
-        ++ flat_map (spec.posted_faults past at postings.now) posted.old) }
+    ensures faults { (past : prelude.List lives.Step) → IsKept past accounts.old
+        → OnOk result (faults.new
+        ≡ with_found (flat_map (spec.posted_faults past at postings.now) posted.old) faults.old) }
     ensures held { OnOk result ((ps : prelude.List declared.Posted) → AreHeld ps holdings.old
         → AreHeld (ps ++ posted.old) holdings.new) }
     ensures bounded { OnOk result (IsBounded holdings.new) }
@@ -105,7 +99,6 @@ pub(crate) fn book_postings<'a>(
             faults,
             at,
             postings,
-            asked,
             &mut posted[index],
         )?;
     }
@@ -130,11 +123,10 @@ fn balances_as<'a>(
     }
 }
 
-/// Adds F18 where a transaction doesn't balance, if it is asked for.
+/// Adds F18 where a transaction doesn't balance. Where nobody asks for faults it isn't weighed.
 pub(crate) fn note_balance<'a>(
-    asked: bool,
     scales: &mut Scales<'a>,
-    faults: &mut Vec<Fault>,
+    faults: &mut FaultLog,
     at: Place,
     postings: &[WrittenPosting<'a>],
     tried: &Tried<'a>,
@@ -142,15 +134,15 @@ pub(crate) fn note_balance<'a>(
     requires few { length tried.now.posted ≤ 10 ^ 9 }
     requires light { AllByRecursion IsLight (booked_legs postings.now tried.now.posted) }
     requires balances { KnowsBalance postings.now tried.now }
-    ensures { asked ≡ true → OnOk result (faults.new.items ≡ faults.old.items ++ faults_at at
+    ensures { OnOk result (faults.new ≡ with_found (faults_at at
         (kind_if (not (is_balanced (booked_legs postings.now tried.now.posted)))
-        FaultKind.Unbalanced)) }
+        FaultKind.Unbalanced)) faults.old) }
 {
-    if !asked {
+    if !faults.is_kept() {
         return Ok(());
     }
     if !balances_as(scales, postings, tried)? {
-        faults.push(Fault {
+        faults.add(Fault {
             kind: FaultKind::Unbalanced,
             place: at,
         })?;

@@ -86,11 +86,6 @@ in_range legs h few = record {
       let fewer = first_few k legs in omega (arith, bound, fewer, few);
 }
 
-pub light_more : (legs : List Leg) (l : Leg) → AllByRecursion IsLight legs → IsLight l
-    → AllByRecursion IsLight (legs ++ l ∷ [])
-light_more [] l h new = (new, tt)
-light_more (k ∷ legs) l h new = (h.0, light_more legs l h.1 new)
-
 pub light_units : (units : amounts.Amount) (w : Whole) → IsOfUnits units w → IsLight (leg.Whole w)
 light_units units w is =
     subst (λ z. unsigned_abs z < 10 ^ 28)

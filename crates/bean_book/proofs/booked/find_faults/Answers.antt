@@ -1,9 +1,10 @@
 use Rattle.std.proofs.Common.{◌≤◌, ◌∙◌, Err, ap, arith, length, refl, reverse, subst, sym}
 use Rattle.std.specs.List.{flat_map}
+use Rattle.bean_accounts.specs.Log.{found as found_in, with_found}
 use Rattle.limits.specs.declared.counts.TheConstants.{MOST_POSTINGS}
 use Rattle.bean_pad.specs.Note.{noted_pads}
 use Rattle.bean_replay.proofs.PadFacts.{as_many}
-use Rattle.bean_replay.specs.Booked.{bookings_of, method_in_ledger}
+use Rattle.bean_replay.specs.Booked.{bookings_of, faults_of, method_in_ledger}
 use Rattle.bean_book.specs.Reported.{reported}
 use Rattle.bean_book.specs.Rows.{rows_of_pad}
 use Rattle.bean_book.specs.declared.details.Details.TheVariants.{All}
@@ -53,4 +54,4 @@ returns c =
     let few = c.in-Ok-count_pads.ensures.few in
     found l b.stand b.leads (omega (arith, sum, few, pads, all, kept)) c.new.result
     (c.new.ensures ∙ c.in_ok-report.ensures
-    ∙ ap reported (c.into_vec-faults.ensures ∙ b.finished.faults_are refl))
+    ∙ ap reported (c.into_vec-faults.ensures ∙ c.into_found.ensures ∙ ap found_in (b.finished.faults_are ∙ ap (with_found (faults_of l b.stand)) c.new-log.ensures)))

@@ -3,6 +3,7 @@ use Rattle.std.proofs.lemmas.Result.{IfOk-weaker}
 use Rattle.std.specs.List.{AllByRecursion}
 use Rattle.limits.specs.declared.counts.TheConstants.{MOST_POSTINGS}
 use Rattle.bean_loaded.specs.Limited.{IsSmall}
+use Rattle.bean_accounts.proofs.LogFacts.{asked_as_before}
 use Rattle.bean_accounts.specs.Methods.{method_in}
 use Rattle.bean_replay.specs.Booked.{IsBooked, IsFinished, method_in_ledger}
 use Rattle.bean_replay.specs.Method as spec
@@ -37,21 +38,22 @@ returns-in-Ok-clause-booked g c =
     sym (c.in_ok-methods.ensures a ∙ (λ k. spec.method_of (otherwise k) (ds k) a)) in
     let all = c.in-Ok.ensures.leads m methods in
     let led = all.1 in
-    IfOk-weaker c.finish.result (IsFinished g.S.Bookings c.in-Ok.led.booker.asks.faults l all.0)
-    (IsBooked g.S.Bookings c.args.tells l)
+    let before = c.args.faults in
+    IfOk-weaker c.finish.result (IsFinished g.S.Bookings before l all.0) (IsBooked g.S.Bookings before l)
     (λ b finished. record {
       stand = all.0;
       leads = subst (λ ds. LeadsTo m (reverse ds) all.0) own led.leads;
       few = subst (λ n. n ≤ MOST_POSTINGS) led.stands.count led.stands.room.few;
-      finished = subst (λ told. IsFinished g.S.Bookings told l all.0 b) c.in-Ok.ensures.tells finished;
+      finished = finished;
     })
-    (c.finish.ensures.booked l c.in_ok-told.ensures m (reverse c.into_directives.result.items)
-    all.0 led)
+    (c.finish.ensures.booked l before c.in_ok-note_before.ensures
+    (c.in-Ok.ensures.asked ∙ asked_as_before before _ _ c.in_ok-note_before.ensures) m
+    (reverse c.into_directives.result.items) all.0 led)
 
 pub returns-in-Ok-clause-small : goal.returns-in-Ok-clause-small
 returns-in-Ok-clause-small g c =
     let l = c.args.loaded in
-    IfOk-weaker c.finish.result (IsBooked g.S.Bookings c.args.tells l)
+    IfOk-weaker c.finish.result (IsBooked g.S.Bookings c.args.faults l)
     (λ b. AllByRecursion IsSmallNoted b.pads)
     (λ b booked.
     subst (AllByRecursion IsSmallNoted) (sym booked.finished.pads_are)

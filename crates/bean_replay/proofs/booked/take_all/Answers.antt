@@ -38,7 +38,7 @@ take_into-requires g c = λ k.
           ),
           let few = c.requires.few in omega (arith, few, whole, parts, turned),
         ),
-        (subst (AllByRecursion (IsWatched c.loop-placed.booker.asks.watched)) next
+        (subst (AllByRecursion (IsWatched c.loop-placed.booker.watched)) next
             c.loop-placed.invariant.watched).0,
       ),
     )
@@ -48,12 +48,12 @@ loop-placed-init g c =
     let items = c.into_iter-placed-iterator.ensures.into_iter_gives.0 in record {
       whole = items;
       watched =
-          subst (AllByRecursion (IsWatched c.new-booker.result.asks.watched)) (sym items)
+          subst (AllByRecursion (IsWatched c.new-booker.result.watched)) (sym items)
           (subst (λ w. AllByRecursion (IsWatched w) c.args.directives.items)
-          (sym (ap (λ a. a.watched) c.new-booker.ensures.asks))
+          (sym (ap (λ a. a.0) c.new-booker.ensures.asks))
           (subst (AllByRecursion (IsWatched c.are_watched.result)) c.deref.ensures.value
           c.are_watched.ensures));
-      tells = ap (λ a. a.faults) c.new-booker.ensures.asks;
+      asked = ap (λ a. a.1) c.new-booker.ensures.asks;
       leads = λ m methods. (
         start,
         record {
@@ -73,10 +73,10 @@ loop-placed-preserved g c =
           ∙ ap (λ l. before ++ l) (sym c.in-Some.ensures.steps.0)
           ∙ c.loop-placed.invariant.whole;
       watched =
-          subst (λ w. AllByRecursion (IsWatched w) after) (sym (ap (λ a. a.watched) c.in-Ok.ensures.asks))
-          (subst (AllByRecursion (IsWatched c.loop-placed.booker.asks.watched)) c.in-Some.ensures.steps.0
+          subst (λ w. AllByRecursion (IsWatched w) after) (sym (ap (λ a. a.0) c.in-Ok.ensures.asks))
+          (subst (AllByRecursion (IsWatched c.loop-placed.booker.watched)) c.in-Some.ensures.steps.0
           c.loop-placed.invariant.watched).1;
-      tells = ap (λ a. a.faults) c.in-Ok.ensures.asks ∙ c.loop-placed.invariant.tells;
+      asked = ap (λ a. a.1) c.in-Ok.ensures.asks ∙ c.loop-placed.invariant.asked;
       leads = λ m methods.
           let booker = c.take_into.new.booker in
           let bookings = c.take_into.new.to in

@@ -1,8 +1,9 @@
 use Rattle.std.proofs.Common.{◌≡◌, ◌++◌, ◌∷◌, [], append_assoc, take, arith, ap, sym, ◌∙◌, subst}
 use Rattle.std.proofs.Common.{get_or, slice_set}
+use Rattle.bean_accounts.specs.Log.{with_found}
 use Rattle.bean_holdings.specs.Holdings.{AreHeld}
 use Rattle.bean_replay.specs.Stand as spec
-use Rattle.bean_replay.proofs.StepFacts.{flat_more, taken_more, written_same}
+use Rattle.bean_replay.proofs.StepFacts.{found_more, taken_more, written_same}
 use Rattle.bean_replay.proofs.postings.book_postings.Goals as goal
 
 pub loop-index-preserved : goal.loop-index-preserved
@@ -18,14 +19,14 @@ loop-index-preserved c =
           ∙ written_same c.loop-index.posted i item at ∙ same;
       kept = λ past kept.
           c.in_ok-book_posting.ensures.kept past (c.loop-index.invariant.kept past kept);
-      faults = λ past kept asked.
-          flat_more (spec.posted_faults past c.args.at c.args.postings.now) posted i item
-          c.args.faults.now.items c.loop-index.faults.items c.book_posting.new.faults.items
-          (omega arith) is (c.loop-index.invariant.faults past kept asked)
-          (subst (λ p. c.book_posting.new.faults.items
-          ≡ c.loop-index.faults.items
-          ++ spec.posted_faults past c.args.at c.args.postings.now p) (sym at)
-          (c.in_ok-book_posting.ensures.faults past (c.loop-index.invariant.kept past kept) asked));
+      faults = λ past kept.
+          found_more (spec.posted_faults past c.args.at c.args.postings.now) posted i item
+          c.args.faults.now c.loop-index.faults c.book_posting.new.faults
+          (omega arith) is (c.loop-index.invariant.faults past kept)
+          (subst (λ p. c.book_posting.new.faults
+          ≡ with_found (spec.posted_faults past c.args.at c.args.postings.now p) c.loop-index.faults)
+          (sym at)
+          (c.in_ok-book_posting.ensures.faults past (c.loop-index.invariant.kept past kept)));
       bounded = c.in_ok-book_posting.ensures.bounded;
       additions =
           let was = c.loop-index.invariant.additions in

@@ -3,7 +3,7 @@ use Rattle.std.proofs.lemmas.List.{length-map, take_all}
 use Rattle.std.specs.List.{AllByRecursion}
 use Rattle.bean_interp.specs.Residual.{IsLight}
 use Rattle.bean_transactions.specs.Tried as spec
-use Rattle.bean_transactions.proofs.LightFacts.{in_range, light_more, light_units}
+use Rattle.bean_transactions.proofs.LightFacts.{in_range, light_units}
 use Rattle.bean_transactions.proofs.OutcomeFacts.{mapped_more}
 use Rattle.bean_transactions.proofs.legs.are_light.Goals as goal
 
@@ -14,7 +14,7 @@ loop-one-preserved c =
     let i = c.loop-one.one-index in
     let one = c.one-item.result in
     subst (AllByRecursion IsLight) (sym (mapped_more f qs i one (omega arith) c.one-item.is))
-    (light_more (map f (take i qs)) (f one) c.loop-one.invariant
+    (all_pushed IsLight (map f (take i qs)) (f one) c.loop-one.invariant
     (light_units one.units _ (c.if-not-is_of_units.ensures refl)))
 
 pub returns : goal.returns

@@ -1,7 +1,9 @@
 use Rattle.std.proofs.Common.{◌++◌, ◌∷◌, [], List, ap, arith, length, not, subst}
 use Rattle.std.proofs.Common.{append_assoc, sym, ◌∙◌}
 use Rattle.std.specs.List.{flat_map}
+use Rattle.bean_accounts.proofs.LogFacts.{asked_as_before, asked_more}
 use Rattle.bean_accounts.specs.Faults.{faults_at, kind_if}
+use Rattle.bean_accounts.specs.Log.{asked_for, is_kept, with_found}
 use Rattle.bean_base.specs.declared.fault.FaultKind.TheVariants as kinds
 use Rattle.bean_base.specs.declared.span.Place.{Place}
 use Rattle.bean_directives.specs.declared.transaction.Transaction.{Transaction}
@@ -72,21 +74,25 @@ returns-clause-standing c = λ m past st is.
             (ap (λ l. postings_of st.drafts ++ l) lent ∙ sym (postings_more st.drafts one))
             (c.in_ok-book_postings.ensures.held (postings_of st.drafts) is.held);
         count = omega (arith, count, added, lengths, before);
-        seen = seen_of b.asks.watched posted ++ is.seen;
-        follows = subst (λ l. Follows (seen_of b.asks.watched l ++ is.seen) c.show_watched.new.padder) shown
+        seen = seen_of b.watched posted ++ is.seen;
+        follows = subst (λ l. Follows (seen_of b.watched l ++ is.seen) c.show_watched.new.padder) shown
             (c.in_ok-show_watched.ensures.follows is.seen is.follows);
-        steps_are = shown_more b.asks.watched (postings_of st.drafts) posted
+        steps_are = shown_more b.watched (postings_of st.drafts) posted
             (postings_of (st.drafts ++ one ∷ [])) st.steps is.seen (postings_more st.drafts one)
             is.steps_are;
-        faults_are = λ asked.
-            c.in_ok-book_postings.ensures.faults (account_steps past) is.accounts asked
-            ∙ ap (λ l. l
-            ++ each c.place-at.result c.as_slice-postings.result.now c.as_mut_slice.result.now)
-            (c.in_ok-note_balance.ensures asked)
-            ∙ (λ k. (is.faults_are asked k ++ own (there k) (written k) posted)
-            ++ each (there k) (written k) (lent k))
-            ∙ append_assoc st.faults (own w.place w.transaction.postings posted)
-            (each w.place w.transaction.postings posted);
+        faults_are =
+            asked_more c.note_balance.new.faults c.book_postings.new.faults
+            (st.faults ++ own w.place w.transaction.postings posted)
+            (each w.place w.transaction.postings posted)
+            (asked_more b.faults c.note_balance.new.faults st.faults
+            (own w.place w.transaction.postings posted) is.faults_are
+            (c.in_ok-note_balance.ensures
+            ∙ (λ k. with_found (own (there k) (written k) posted) b.faults)))
+            (c.in_ok-book_postings.ensures.faults (account_steps past) is.accounts
+            ∙ (λ k. with_found (each (there k) (written k) (lent k)) c.note_balance.new.faults))
+            ∙ ap (asked_for (is_kept c.book_postings.new.faults))
+            (append_assoc st.faults (own w.place w.transaction.postings posted)
+            (each w.place w.transaction.postings posted));
         room = record {
           bounded = c.in_ok-book_postings.ensures.bounded;
           near = c.in_ok-show_watched.ensures.near;
@@ -106,3 +112,12 @@ returns-clause-standing c = λ m past st is.
           })
           ∷ [];
     }
+
+pub returns-clause-asks : goal.returns-clause-asks
+returns-clause-asks c =
+    let z = c.requires.stands in
+    let behind =
+    c.in_ok-book_postings.ensures.faults (account_steps z.past) z.is.accounts in
+    ap (λ k. (c.args.self.now.watched, k))
+    (asked_as_before c.note_balance.new.faults _ _ behind
+    ∙ asked_as_before c.args.self.now.faults _ _ c.in_ok-note_balance.ensures)

@@ -1,8 +1,10 @@
-use Rattle.std.proofs.Common.{◌≡◌, ◌++◌, ◌∷◌, [], append_assoc, ap, arith, sym, true}
+use Rattle.std.proofs.Common.{◌≡◌, ◌++◌, ◌∷◌, [], ap, arith, sym, true}
 use Rattle.std.proofs.Common.{◌∙◌, refl, subst}
 use Rattle.std.proofs.lemmas.List.{append-nil}
 use Rattle.bean_accounts.specs.Faults.{faults_at, of_close, of_open, of_use}
 use Rattle.bean_accounts.specs.Kept.{IsKept}
+use Rattle.bean_accounts.specs.Log.{with_found}
+use Rattle.bean_accounts.proofs.LogFacts.{asked_as_before, asked_more}
 use Rattle.bean_lots.specs.Inventory.{has_lot}
 use Rattle.bean_pad.specs.Following.{Follows}
 use Rattle.bean_pad.specs.declared.step.Step.TheVariants as step
@@ -22,6 +24,7 @@ use Rattle.bean_replay.proofs.booker.Booker.take_other.Goals as goal
 pub returns-in_ok-take_open-in-Open-clause-standing :
     goal.returns-in_ok-take_open-in-Open-clause-standing
 returns-in_ok-take_open-in-Open-clause-standing c = λ m past st is d same_day from same_kind.
+    let b = c.args.self.now in
     let o = c.in-Open.open in
     let steps = account_steps past in
     let done = c.in_ok-take_open-in-Open.ensures in
@@ -40,9 +43,10 @@ returns-in_ok-take_open-in-Open-clause-standing c = λ m past st is d same_day f
           seen = is.seen;
           follows = is.follows;
           steps_are = is.steps_are;
-          faults_are = λ asked.
-              done.faults steps is.accounts
-              ∙ (λ k. is.faults_are asked k ++ faults_at (at k) (of_open o.account o.method steps));
+          faults_are = asked_more b.faults c.take_open.new.faults st.faults
+              (faults_at (place_of d) (of_open o.account o.method steps)) is.faults_are
+              (done.faults steps is.accounts
+              ∙ (λ k. with_found (faults_at (at k) (of_open o.account o.method steps)) b.faults));
           room = record {
             bounded = is.room.bounded;
             near = is.room.near;
@@ -57,6 +61,7 @@ returns-in_ok-take_open-in-Open-clause-standing c = λ m past st is d same_day f
 pub returns-in_ok-take_close-in-Close-clause-standing :
     goal.returns-in_ok-take_close-in-Close-clause-standing
 returns-in_ok-take_close-in-Close-clause-standing c = λ m past st is d same_day from same_kind.
+    let b = c.args.self.now in
     let o = c.in-Close.close in
     let steps = account_steps past in
     let done = c.in_ok-take_close-in-Close.ensures in
@@ -75,9 +80,10 @@ returns-in_ok-take_close-in-Close-clause-standing c = λ m past st is d same_day
           seen = is.seen;
           follows = is.follows;
           steps_are = is.steps_are;
-          faults_are = λ asked.
-              done.faults steps is.accounts
-              ∙ (λ k. is.faults_are asked k ++ faults_at (at k) (of_close o.account steps));
+          faults_are = asked_more b.faults c.take_close.new.faults st.faults
+              (faults_at (place_of d) (of_close o.account steps)) is.faults_are
+              (done.faults steps is.accounts
+              ∙ (λ k. with_found (faults_at (at k) (of_close o.account steps)) b.faults));
           room = record {
             bounded = is.room.bounded;
             near = is.room.near;
@@ -103,7 +109,7 @@ pub returns-in_ok-take_pad-in-Pad-clause-standing :
 returns-in_ok-take_pad-in-Pad-clause-standing c = λ m past st is d same_day from same_kind.
     let b = c.args.self.now in
     let p = c.in-Pad.pad in
-    let watched : b.asks.watched ≡ true = c.requires.watched (ap is_watching c.in-Pad.is) in
+    let watched : b.watched ≡ true = c.requires.watched (ap is_watching c.in-Pad.is) in
     let same : st.steps ≡ is.seen =
     is.steps_are
     ∙ ap (λ w. steps_of_postings (unseen_of w (postings_of st.drafts)) ++ is.seen) watched in
@@ -138,11 +144,11 @@ returns-in_ok-take_pad-in-Pad-clause-standing c = λ m past st is d same_day fro
           steps_are =
               ap (λ l. own ∷ l) same
               ∙ sym (ap (λ w. steps_of_postings (unseen_of w later) ++ own ∷ is.seen) watched);
-          faults_are = λ asked.
-              done.faults steps is.accounts
-              ∙ (λ k. (is.faults_are asked k ++ faults_at (at k) (of_use p.account steps))
-              ++ faults_at (at k) (of_use p.source steps))
-              ∙ append_assoc st.faults first second;
+          faults_are = asked_more b.faults c.take_pad.new.faults st.faults (first ++ second)
+              is.faults_are
+              (done.faults steps is.accounts
+              ∙ (λ k. with_found (faults_at (at k) (of_use p.account steps)
+              ++ faults_at (at k) (of_use p.source steps)) b.faults));
           room = record {
             bounded = is.room.bounded;
             near = done.near;
@@ -170,7 +176,7 @@ pub returns-in_ok-take_balance-in-Balance-clause-standing :
 returns-in_ok-take_balance-in-Balance-clause-standing c = λ m past st is d same_day from same_kind.
     let own_booker = c.args.self.now in
     let b = c.in-Balance.balance in
-    let watched : own_booker.asks.watched ≡ true = c.requires.watched (ap is_watching c.in-Balance.is) in
+    let watched : own_booker.watched ≡ true = c.requires.watched (ap is_watching c.in-Balance.is) in
     let before = postings_of st.drafts in
     let same : st.steps ≡ is.seen =
     is.steps_are ∙ ap (λ w. steps_of_postings (unseen_of w before) ++ is.seen) watched in
@@ -207,9 +213,10 @@ returns-in_ok-take_balance-in-Balance-clause-standing c = λ m past st is d same
           steps_are =
               ap (λ l. own ∷ l) same
               ∙ sym (ap (λ w. steps_of_postings (unseen_of w before) ++ own ∷ is.seen) watched);
-          faults_are = λ asked.
-              done.faults steps is.accounts
-              ∙ (λ k. is.faults_are asked k ++ faults_at (at k) (of_use (lent k).account steps));
+          faults_are = asked_more own_booker.faults c.take_balance.new.faults st.faults found
+              is.faults_are
+              (done.faults steps is.accounts
+              ∙ (λ k. with_found (faults_at (at k) (of_use (lent k).account steps)) own_booker.faults));
           room = record {
             bounded = is.room.bounded;
             near = done.near;
@@ -235,3 +242,27 @@ returns-in_default-clause-standing c = λ m past st is d same_day from same_kind
         adds = sym (append-nil st.drafts);
       },
     )
+
+pub returns-in_ok-take_open-in-Open-clause-asks : goal.returns-in_ok-take_open-in-Open-clause-asks
+returns-in_ok-take_open-in-Open-clause-asks c =
+    let z = c.requires.stands in
+    let found = c.in_ok-take_open-in-Open.ensures.faults (account_steps z.past) z.is.accounts in
+    ap (λ k. (c.args.self.now.watched, k)) (asked_as_before c.args.self.now.faults _ _ found)
+
+pub returns-in_ok-take_close-in-Close-clause-asks : goal.returns-in_ok-take_close-in-Close-clause-asks
+returns-in_ok-take_close-in-Close-clause-asks c =
+    let z = c.requires.stands in
+    let found = c.in_ok-take_close-in-Close.ensures.faults (account_steps z.past) z.is.accounts in
+    ap (λ k. (c.args.self.now.watched, k)) (asked_as_before c.args.self.now.faults _ _ found)
+
+pub returns-in_ok-take_pad-in-Pad-clause-asks : goal.returns-in_ok-take_pad-in-Pad-clause-asks
+returns-in_ok-take_pad-in-Pad-clause-asks c =
+    let z = c.requires.stands in
+    let found = c.in_ok-take_pad-in-Pad.ensures.faults (account_steps z.past) z.is.accounts in
+    ap (λ k. (c.args.self.now.watched, k)) (asked_as_before c.args.self.now.faults _ _ found)
+
+pub returns-in_ok-take_balance-in-Balance-clause-asks : goal.returns-in_ok-take_balance-in-Balance-clause-asks
+returns-in_ok-take_balance-in-Balance-clause-asks c =
+    let z = c.requires.stands in
+    let found = c.in_ok-take_balance-in-Balance.ensures.faults (account_steps z.past) z.is.accounts in
+    ap (λ k. (c.args.self.now.watched, k)) (asked_as_before c.args.self.now.faults _ _ found)

@@ -1,4 +1,5 @@
-//! The names of tags, links and metadata entries, as slices of the text that they stand in.
+//! The names of tags, links and metadata entries, as slices of the text that they stand in. They are made
+//! of tokens alone.
 ghost use Rattle.std.specs.Prelude.{◌≡◌};
 
 use bean_base::Slice;
@@ -24,7 +25,7 @@ impl<'a> Model for Tag<'a> {
 
 impl<'a> Tag<'a> {
     /// The tag of that name.
-    pub fn new(name: &'a str) -> Tag<'a>
+    pub(crate) fn new(name: &'a str) -> Tag<'a>
         ensures { result ≡ name.now }
     {
         Tag {
@@ -69,7 +70,7 @@ impl<'a> Model for Link<'a> {
 
 impl<'a> Link<'a> {
     /// The link of that name.
-    pub fn new(name: &'a str) -> Link<'a>
+    pub(crate) fn new(name: &'a str) -> Link<'a>
         ensures { result ≡ name.now }
     {
         Link {
@@ -105,7 +106,7 @@ impl<'a> Model for MetaKey<'a> {
 
 impl<'a> MetaKey<'a> {
     /// The key of that name.
-    pub fn new(name: &'a str) -> MetaKey<'a>
+    pub(crate) fn new(name: &'a str) -> MetaKey<'a>
         ensures { result ≡ name.now }
     {
         MetaKey {
