@@ -1,6 +1,7 @@
 //! Values that lie apart from what holds them.
-ghost use Rattle.std.specs.Prelude.{◌≡◌, IfOk};
+ghost use Rattle.std.specs.Prelude.{◌≡◌, ◌++◌, ◌∷◌, [], IfOk, OnOk};
 
+use crate::list::List;
 use std::alloc::{AllocError, Global};
 use std::marker::Model;
 
@@ -45,5 +46,14 @@ impl<T: Drop> Apart<T> {
         ensures { result.now ≡ self.now }
     {
         &self.place
+    }
+}
+
+impl<T: Drop> Apart<List<T>> {
+    /// Adds an item at the end of the list, where it lies.
+    pub(crate) fn push(&mut self, item: T) -> Result<(), AllocError>
+        ensures { OnOk result (self.new ≡ self.old ++ item ∷ []) }
+    {
+        self.place.push(item)
     }
 }

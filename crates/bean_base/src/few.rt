@@ -60,10 +60,10 @@ impl<T: Drop> Few<T> {
     pub fn push(&mut self, alloc: Global, item: T) -> Result<(), AllocError>
         ensures { OnOk result (self.new ≡ self.old ++ item ∷ []) }
     {
-        let mut items = match self.items.take() {
-            Some(items) => items.into_inner(),
-            None => List::new(Vec::with_capacity(alloc, 1)?),
-        };
+        if let Some(items) = &mut self.items {
+            return items.push(item);
+        }
+        let mut items = List::new(Vec::with_capacity(alloc, 1)?);
         items.push(item)?;
         self.items = Some(Apart::new(alloc, items)?);
         Ok(())

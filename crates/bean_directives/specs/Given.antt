@@ -1,10 +1,12 @@
--- What a directive is given once it was read, and what stands in for it meanwhile.
-use Rattle.std.specs.Prelude.{List, [], None}
-use Rattle.bean_base.specs.declared.days.Day.{Day}
-use Rattle.bean_base.specs.declared.flags.Flag.TheVariants.{Complete}
+-- What a directive is given once it was read.
+use Rattle.std.specs.Prelude.{ℕ, List, [], ◌∷◌, ◌++◌}
 use Rattle.bean_directives.specs.declared.directive.Directive.{Directive}
 use Rattle.bean_directives.specs.declared.directive.DirectiveKind.{DirectiveKind}
 use Rattle.bean_directives.specs.declared.directive.DirectiveKind.TheVariants as kinds
+use Rattle.bean_directives.specs.declared.undated.Pushed.{Pushed}
+use Rattle.bean_directives.specs.declared.undated.Pushed.TheVariants as pushed
+use Rattle.bean_grammar.specs.declared.mark.Mark.TheVariants as mark
+use Rattle.bean_grammar.specs.declared.metadata.MetaEntry.{MetaEntry}
 use Rattle.bean_postings.specs.declared.posting.Posting.{Posting}
 
 abbrev pub kind_with : List Posting → DirectiveKind → DirectiveKind
@@ -15,17 +17,17 @@ kind_with ps kind = kind
 abbrev pub with_postings : List Posting → Directive → Directive
 with_postings ps d = record d { kind = kind_with ps d.kind }
 
--- a transaction of nothing, on no line
-abbrev pub nothing_on : Day → Directive
-nothing_on d = record {
-  day = d;
-  line = 0;
-  metadata = [];
-  kind = kinds.Transaction record {
-    flag = Complete;
-    payee = None;
-    narration = [];
-    marks = [];
-    postings = [];
-  };
-}
+-- What is pushed goes behind a transaction's own tags and entries, and to no other directive.
+
+abbrev pub with_tag : List ℕ → DirectiveKind → DirectiveKind
+with_tag tag (kinds.Transaction t) =
+    kinds.Transaction record t { marks = t.marks ++ mark.Tag tag ∷ [] }
+with_tag tag kind = kind
+
+abbrev pub entries_with : DirectiveKind → List MetaEntry → MetaEntry → List MetaEntry
+entries_with (kinds.Transaction t) entries e = entries ++ e ∷ []
+entries_with kind entries e = entries
+
+abbrev pub with_pushed : Pushed → Directive → Directive
+with_pushed (pushed.Tag tag) d = record d { kind = with_tag tag d.kind }
+with_pushed (pushed.Entry e) d = record d { metadata = entries_with d.kind d.metadata e }

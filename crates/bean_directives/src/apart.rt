@@ -1,9 +1,10 @@
 //! Directives that lie in memory of their own.
-ghost use Rattle.std.specs.Prelude.{◌≡◌, IfOk};
-ghost use Rattle.bean_directives.specs.Given.{with_postings};
+ghost use Rattle.std.specs.Prelude.{◌≡◌, IfOk, OnOk};
+ghost use Rattle.bean_directives.specs.Given.{with_postings, with_pushed};
 
 use crate::directive::Directive;
 use crate::stretch::Stretch;
+use crate::undated::Pushed;
 use bean_postings::WrittenPosting;
 use std::alloc::{AllocError, Global};
 use std::marker::Model;
@@ -60,5 +61,12 @@ impl<'a> ApartDirective<'a> {
         ensures { self.new ≡ with_postings postings.entry self.old }
     {
         self.place.give_postings(postings);
+    }
+
+    /// Gives a transaction what is pushed, where it lies.
+    pub fn give(&mut self, alloc: Global, pushed: &Pushed<'a>) -> Result<(), AllocError>
+        ensures { OnOk result (self.new ≡ with_pushed pushed.now self.old) }
+    {
+        self.place.give(alloc, pushed)
     }
 }

@@ -3,13 +3,13 @@
 use crate::accounts::{Close, Open, Pad};
 use crate::notes::{Custom, Document, Event, Note, Query};
 use crate::numbers::{Balance, Commodity, Price};
-use crate::payee::Payee;
 use crate::stretch::Stretch;
 use crate::transaction::Transaction;
-use bean_base::{Apart, Day, Few, Flag, Text};
-use bean_grammar::MetaEntry;
+use crate::undated::Pushed;
+use bean_base::{Apart, Day, Few};
+use bean_grammar::{Mark, MetaEntry};
 use bean_postings::WrittenPosting;
-use std::alloc::Global;
+use std::alloc::{AllocError, Global};
 
 /// What a directive does. What few directives have, and is large, lies apart.
 pub enum DirectiveKind<'a> {
@@ -80,8 +80,8 @@ pub struct Directive<'a> {
 }
 
 impl<'a> Directive<'a> {
-    ghost use Rattle.std.specs.Prelude.{◌≡◌, MatchOption};
-    ghost use Rattle.bean_directives.specs.Given.{nothing_on, with_postings};
+    ghost use Rattle.std.specs.Prelude.{◌≡◌, MatchOption, OnOk};
+    ghost use Rattle.bean_directives.specs.Given.{with_postings, with_pushed};
 
     /// Gives a transaction its postings, which stand in a block that is full by now.
     #[inline(always)]
@@ -104,22 +104,16 @@ impl<'a> Directive<'a> {
         }
     }
 
-    /// A transaction of nothing, which stands in for a directive that is changed elsewhere. Takes no
-    /// memory.
-    pub fn stand_in(day: Day) -> Directive<'a>
-        ensures { result ≡ nothing_on day }
+    /// Gives a transaction what is pushed, behind its own tags and entries.
+    pub fn give(&mut self, alloc: Global, pushed: &Pushed<'a>) -> Result<(), AllocError>
+        ensures { OnOk result (self.new ≡ with_pushed pushed.now self.old) }
     {
-        Directive {
-            day,
-            line: 0,
-            metadata: Few::new(),
-            kind: DirectiveKind::Transaction(Transaction {
-                flag: Flag::Complete,
-                payee: Payee::none(),
-                narration: Text::new(""),
-                marks: Few::new(),
-                postings: Stretch::new(),
-            }),
+        if let DirectiveKind::Transaction(transaction) = &mut self.kind {
+            match pushed {
+                Pushed::Tag(tag) => transaction.marks.push(alloc, Mark::Tag(tag.lend()))?,
+                Pushed::Entry(entry) => self.metadata.push(alloc, entry.lend())?,
+            }
         }
+        Ok(())
     }
 }

@@ -17,7 +17,8 @@ use Rattle.bean_directives.specs.declared.undated.PushName.{PushName}
 use Rattle.bean_directives.specs.declared.undated.UndatedKind.{UndatedKind}
 use Rattle.bean_directives.specs.declared.undated.UndatedKind.TheVariants as undated
 use Rattle.bean_parser.specs.Parsed.{directives_in, bounds_of, all_bounds}
-use Rattle.bean_pushes.specs.Scope.{with_tag, entries_with, with_pushed, given_between, given_up_to}
+use Rattle.bean_directives.specs.Given.{with_tag, entries_with, with_pushed}
+use Rattle.bean_pushes.specs.Scope.{given_between, given_up_to}
 use Rattle.bean_pushes.specs.Scope.{given_behind, with_pushes, name_in, name_of, same_name, latest}
 use Rattle.bean_pushes.specs.Scope.{open_behind, open_pushes, reach_of}
 use Rattle.bean_parser.specs.declared.block.Outcome.{Outcome}

@@ -4,7 +4,8 @@ use Rattle.std.proofs.Common.{nat_lt, List, [], ◌∷◌, length, get_or, refl,
 use Rattle.std.proofs.lemmas.Bool.Decides.{nat_tests}
 use Rattle.std.proofs.Math.ListN.{set}
 use Rattle.std.specs.Prelude.{if◌then◌else◌}
-use Rattle.bean_pushes.specs.Scope.{with_pushed, given_between}
+use Rattle.bean_directives.specs.Given.{with_pushed}
+use Rattle.bean_pushes.specs.Scope.{given_between}
 use Rattle.bean_directives.specs.declared.directive.Directive.{Directive}
 use Rattle.bean_directives.specs.declared.undated.Pushed.{Pushed}
 

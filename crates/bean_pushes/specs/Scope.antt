@@ -5,11 +5,8 @@ use Rattle.std.specs.Prelude.{if◌then◌else◌}
 use Rattle.std.specs.Str.{bytes_eq}
 use Rattle.bean_base.specs.declared.fault.Fault as faults
 use Rattle.bean_base.specs.declared.fault.FaultKind.TheVariants.{UnmatchedPushOrPop}
-use Rattle.bean_grammar.specs.declared.mark.Mark.TheVariants as mark
-use Rattle.bean_grammar.specs.declared.metadata.MetaEntry.{MetaEntry}
+use Rattle.bean_directives.specs.Given.{with_pushed}
 use Rattle.bean_directives.specs.declared.directive.Directive.{Directive}
-use Rattle.bean_directives.specs.declared.directive.DirectiveKind.{DirectiveKind}
-use Rattle.bean_directives.specs.declared.directive.DirectiveKind.TheVariants as kinds
 use Rattle.bean_directives.specs.declared.undated.Bound.{Bound}
 use Rattle.bean_directives.specs.declared.undated.Bound.TheVariants.{Push, Pop}
 use Rattle.bean_directives.specs.declared.undated.Pushed.{Pushed}
@@ -75,21 +72,6 @@ abbrev pub unmatched : List PlacedBound → List PlacedBound → List faults.Fau
 unmatched before [] = []
 unmatched before (b ∷ bs) =
     fault_unless (is_matched before b.bound bs) b.line ++ unmatched (before ++ b ∷ []) bs
-
--- What is pushed goes behind a transaction's own tags and entries, and to no other directive.
-
-abbrev pub with_tag : List ℕ → DirectiveKind → DirectiveKind
-with_tag tag (kinds.Transaction t) =
-    kinds.Transaction record t { marks = t.marks ++ mark.Tag tag ∷ [] }
-with_tag tag kind = kind
-
-abbrev pub entries_with : DirectiveKind → List MetaEntry → MetaEntry → List MetaEntry
-entries_with (kinds.Transaction t) entries e = entries ++ e ∷ []
-entries_with kind entries e = entries
-
-abbrev pub with_pushed : Pushed → Directive → Directive
-with_pushed (pushed.Tag tag) d = record d { kind = with_tag tag d.kind }
-with_pushed (pushed.Entry e) d = record d { metadata = entries_with d.kind d.metadata e }
 
 -- those from one place up to another get what is pushed; the list's first has the place i
 abbrev pub given_between : Pushed → ℕ → ℕ → ℕ → List Directive → List Directive

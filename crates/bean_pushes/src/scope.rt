@@ -8,11 +8,9 @@ ghost use Rattle.bean_pushes.specs.Scope as spec;
 ghost use Rattle.bean_pushes.specs.declared.scope.PlacedBound as placed;
 
 use crate::matches::{Opens, name_in};
-use bean_base::{Fault, FaultKind, Few, Place};
-use bean_directives::{ApartDirective, Bound, Directive, DirectiveKind, Pushed};
-use bean_grammar::{Mark, MetaEntry, Tag};
+use bean_base::{Fault, FaultKind, Place};
+use bean_directives::{ApartDirective, Bound, Pushed};
 use std::alloc::{AllocError, Global};
-use std::mem::replace;
 
 /// Where a scope begins or ends, with its place.
 #[derive(Drop)]
@@ -80,71 +78,6 @@ pub fn add_unmatched<'a>(
     Ok(())
 }
 
-/// Gives a tag to a transaction.
-fn give_tag<'a>(
-    alloc: Global,
-    tag: &Tag<'a>,
-    kind: &mut DirectiveKind<'a>,
-) -> Result<(), AllocError>
-    ensures { OnOk result (kind.new ≡ spec.with_tag tag.now kind.old) }
-{
-    match kind {
-        DirectiveKind::Transaction(transaction) => {
-            transaction.marks.push(alloc, Mark::Tag(tag.lend()))
-        }
-        _ => Ok(()),
-    }
-}
-
-/// Gives an entry to a transaction.
-fn give_entry<'a>(
-    alloc: Global,
-    entry: &MetaEntry<'a>,
-    kind: &DirectiveKind<'a>,
-    entries: &mut Few<MetaEntry<'a>>,
-) -> Result<(), AllocError>
-    ensures { OnOk result (entries.new ≡ spec.entries_with kind.now entries.old entry.now) }
-{
-    match kind {
-        DirectiveKind::Transaction(_) => entries.push(alloc, entry.lend()),
-        _ => Ok(()),
-    }
-}
-
-/// A directive with what is pushed, where it is a transaction.
-fn given<'a>(
-    alloc: Global,
-    pushed: &Pushed<'a>,
-    directive: Directive<'a>,
-) -> Result<Directive<'a>, AllocError>
-    ensures { IfOk result (λ d. d ≡ spec.with_pushed pushed.now directive.entry) }
-{
-    let mut own = directive;
-    let lent = &mut own;
-    match pushed {
-        Pushed::Tag(tag) => give_tag(alloc, tag, &mut lent.kind)?,
-        Pushed::Entry(entry) => give_entry(alloc, entry, &lent.kind, &mut lent.metadata)?,
-    }
-    Ok(own)
-}
-
-/// Gives what is pushed to a directive, which is taken out of its memory for that.
-fn give<'a>(
-    alloc: Global,
-    pushed: &Pushed<'a>,
-    directive: &mut ApartDirective<'a>,
-) -> Result<(), AllocError>
-    ensures { OnOk result (directive.new ≡ spec.with_pushed pushed.now directive.old) }
-{
-    let stand_in = ApartDirective::new(alloc, Directive::stand_in(directive.get().day))?;
-    let own = replace(directive, stand_in).into_inner();
-    let _ = replace(
-        directive,
-        ApartDirective::new(alloc, given(alloc, pushed, own)?)?,
-    );
-    Ok(())
-}
-
 /// Gives what is pushed to the transactions from one place up to another.
 fn give_between<'a>(
     alloc: Global,
@@ -158,7 +91,7 @@ fn give_between<'a>(
 {
     let mut i = from;
     while i < to && i < directives.len() {
-        give(alloc, pushed, &mut directives[i])?;
+        directives[i].give(alloc, pushed)?;
         i += 1;
     }
     Ok(())

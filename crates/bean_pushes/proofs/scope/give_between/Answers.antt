@@ -1,6 +1,6 @@
 use Rattle.std.proofs.Common.{◌≤◌, ◌<◌, ◌∙◌, sym, ap, length, arith}
 use Rattle.std.proofs.lemmas.Grind.{common_steps}
-use Rattle.bean_pushes.specs.Scope.{with_pushed}
+use Rattle.bean_directives.specs.Given.{with_pushed}
 use Rattle.bean_pushes.proofs.ScopeFacts.{given_next, given_past, reach}
 use Rattle.bean_pushes.proofs.scope.give_between.Goals as goal
 
