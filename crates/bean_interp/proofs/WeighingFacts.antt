@@ -15,6 +15,7 @@ use Rattle.bean_interp.specs.Sums.{Fits, IsNarrow, entry_of, table, with_leg}
 use Rattle.bean_interp.specs.Weight.{currency_of, weight_of}
 use Rattle.bean_interp.specs.declared.leg.Leg.{Leg}
 use Rattle.bean_interp.specs.declared.leg.Leg.TheVariants.{Whole, MissingNumber, MissingAmount}
+use Rattle.theory.proofs.AllFacts.{all_pushed}
 use Rattle.bean_interp.proofs.TableFacts.{entry_is, sum_push, table_push}
 
 -- A table of the weights of legs that are in range.

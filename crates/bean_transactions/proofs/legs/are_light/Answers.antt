@@ -1,6 +1,7 @@
 use Rattle.std.proofs.Common.{◌≤◌, ◌^◌, ap, arith, length, map, refl, subst, sym, take}
 use Rattle.std.proofs.lemmas.List.{length-map, take_all}
 use Rattle.std.specs.List.{AllByRecursion}
+use Rattle.theory.proofs.AllFacts.{all_pushed}
 use Rattle.bean_interp.specs.Residual.{IsLight}
 use Rattle.bean_transactions.specs.Tried as spec
 use Rattle.bean_transactions.proofs.LightFacts.{in_range, light_units}
