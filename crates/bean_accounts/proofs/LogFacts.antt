@@ -1,7 +1,7 @@
 -- Faults that are found one behind the other.
 use Rattle.std.proofs.Common.{◌≡◌, ◌++◌, ◌∙◌, List, [], append_assoc, ap, false, refl, subst, sym, true≢false}
 use Rattle.std.proofs.lemmas.List.{append-nil}
-use Rattle.bean_accounts.specs.Log.{asked_for, found, is_kept, with_found}
+use Rattle.bean_accounts.specs.Log.{asked_for, emptied, found, is_kept, with_found}
 use Rattle.bean_accounts.specs.declared.log.FaultLog.{FaultLog}
 use Rattle.bean_accounts.specs.declared.log.FaultLog.TheVariants as log
 use Rattle.bean_base.specs.declared.fault.Fault.{Fault}
@@ -41,6 +41,13 @@ pub asked_more : (l new : FaultLog) (fs more : List Fault) → l ≡ asked_for (
     → new ≡ with_found more l → new ≡ asked_for (is_kept new) (fs ++ more)
 asked_more l new fs more is found =
     subst (λ k. k ≡ asked_for (is_kept k) (fs ++ more)) (sym found) (grown l fs more is)
+
+pub none_asked : (l new : FaultLog) → new ≡ emptied l → new ≡ asked_for (is_kept new) []
+none_asked l new is = subst (λ k. k ≡ asked_for (is_kept k) []) (sym is) (of l)
+  where
+    of : (l : FaultLog) → emptied l ≡ asked_for (is_kept (emptied l)) []
+    of (log.Kept before) = refl
+    of log.Off = refl
 
 -- a log before some faults, those that another log of the same kind kept, and more behind
 pub joined : (before own : FaultLog) (first second third : List Fault)

@@ -55,7 +55,8 @@ pub found_more : {X : Type 0} (f : X → List Fault) (xs : List X) (i : ℕ) (x 
     → new ≡ with_found (flat_map f (take (i + 1) xs)) before
 found_more f xs i x before old new h e o n =
     n ∙ ap (with_found (f x)) o ∙ found_behind (flat_map f (take i xs)) (f x) before
-    ∙ ap (λ l. with_found l before) (sym (flat_more f xs i x [] _ _ h e refl refl))
+    ∙ ap (λ l. with_found l before)
+    (flat_more f xs i x [] (flat_map f (take i xs)) (flat_map f (take i xs) ++ f x) h e refl refl)
 
 pub latest_mapped : {X Y : Type 0} (f : X → Y) (xs : List X) (i : ℕ) (x : X) → i < length xs
     → x ≡ get_or xs i x

@@ -139,7 +139,7 @@ pub fn book_directives<'a, S: Bookings<'a> + Drop>(
     bookings: S,
 ) -> Result<Booked<'a, S>, Refusal<BookCause>>
     requires { S.has_taken bookings [] }
-    ensures booked { IfOk result (IsBooked S.Bookings faults.entry loaded.entry) }
+    ensures booked { IfOk result (IsBooked S.Bookings faults loaded.entry) }
     ensures small { IfOk result (λ booked. AllByRecursion IsSmallNoted booked.pads) }
     ensures full { result ≡ prelude.Err (Refusal.Refused BookCause.TooManyPostings) → HasTooMany loaded.entry }
 {

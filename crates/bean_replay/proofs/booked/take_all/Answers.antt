@@ -51,8 +51,8 @@ loop-placed-init g c =
           subst (AllByRecursion (IsWatched c.new-booker.result.watched)) (sym items)
           (subst (λ w. AllByRecursion (IsWatched w) c.args.directives.items)
           (sym (ap (λ a. a.0) c.new-booker.ensures.asks))
-          (subst (AllByRecursion (IsWatched c.are_watched.result)) c.deref.ensures.value
-          c.are_watched.ensures));
+          (subst (AllByRecursion (IsWatched c.are_watched-watched.result)) c.deref.ensures.value
+          c.are_watched-watched.ensures));
       asked = ap (λ a. a.1) c.new-booker.ensures.asks;
       leads = λ m methods. (
         start,
