@@ -10,38 +10,23 @@ ghost use Rattle.bean_directives.specs.Head.{IsBelowZero};
 
 use bean_grammar::front::{after_number, after_plus_or_minus, after_sign};
 use bean_lexer::{Sign, Token};
-use exact_numbers::{ExactNumber, ExactProduct};
+use exact_numbers::{ExactProduct, ExactSum};
 use limits::MOST_NESTED;
 use std::alloc::{AllocError, Global};
 
-fn joined_numbers(
+fn joined<'a>(
     alloc: Global,
     is_minus: bool,
-    left: &ExactNumber,
-    right: ExactNumber,
-) -> Result<ExactNumber, AllocError>
-    ensures { IfOk result (λ n. n ≡ value.joined_exactly is_minus left.now right) }
+    left: ExactSum<'a>,
+    right: ExactProduct<'a>,
+) -> Result<ExactSum<'a>, AllocError>
+    ensures { IfOk result (λ n. n ≡ value.joined_exactly is_minus left.entry right.entry) }
 {
     if is_minus {
         left.minus(alloc, right)
     } else {
-        left.plus(alloc, &right)
+        left.plus(alloc, right)
     }
-}
-
-/// The sum or the difference, which alone need products to be multiplied out.
-fn joined<'a>(
-    alloc: Global,
-    is_minus: bool,
-    left: ExactProduct<'a>,
-    right: ExactProduct<'a>,
-) -> Result<ExactProduct<'a>, AllocError>
-    ensures { IfOk result (λ n. n ≡ value.joined_exactly is_minus left.entry right.entry) }
-{
-    let left = left.into_number(alloc)?;
-    let right = right.into_number(alloc)?;
-    let joined = joined_numbers(alloc, is_minus, &left, right)?;
-    ExactProduct::of(alloc, joined)
 }
 
 fn signed<'a>(is_minus: bool, number: ExactProduct<'a>) -> ExactProduct<'a>
@@ -68,7 +53,8 @@ fn sum<'t, 'a>(
     let Some(first) = product(alloc, tokens, room)? else {
         return Ok(None);
     };
-    let (mut value, mut rest) = first;
+    let (term, mut rest) = first;
+    let mut value = ExactSum::of(alloc, term);
     while let Some((is_minus, after)) = after_plus_or_minus(rest) {
         let Some(next) = product(alloc, after, room)? else {
             return Ok(None);
@@ -77,7 +63,7 @@ fn sum<'t, 'a>(
         value = joined(alloc, is_minus, value, right)?;
         rest = more;
     }
-    Ok(Some((value, rest)))
+    Ok(Some((value.into_product(alloc)?, rest)))
 }
 
 #[cycle(worth)]

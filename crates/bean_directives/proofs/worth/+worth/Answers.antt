@@ -120,9 +120,10 @@ pub sum-loop-is_minus-init : goal.sum-loop-is_minus-init
 sum-loop-is_minus-init t c = record {
   shorter = when_present _ _ _ c.in-Some.is c.in_ok-first.ensures.shorter;
   ends = when_present _ _ _ c.in-Some.is c.in_ok-first.ensures.ends;
-  read = row_begins begins_with_plus_or_minus (product exactly _) (λ v. v)
+  read = rw c.of-value.ensures
+      (row_begins begins_with_plus_or_minus (product exactly _) (λ v. v)
       (another_product exactly _) (with_product exactly) _ _ _ (product_begins exactly _)
-      (when_some _ _ _ _ c.in-Some.is c.in_ok-first.ensures.read);
+      (when_some _ _ _ _ c.in-Some.is c.in_ok-first.ensures.read));
 }
 
 pub sum-returns-in_default-2-clause-read : goal.sum-returns-in_default-2-clause-read
@@ -161,6 +162,7 @@ sum-returns-clause-ends t c =
 
 pub sum-returns-clause-read : goal.sum-returns-clause-read
 sum-returns-clause-read t c =
-    row_is_read begins_with_plus_or_minus (sum exactly _) (another_product exactly _)
+    rw c.in_ok-into_product.ensures
+    (row_is_read begins_with_plus_or_minus (sum exactly _) (another_product exactly _)
     (with_product exactly) _ _ _ (product_told exactly _) c.loop-is_minus.invariant.read
-    c.in_default-after_plus_or_minus.ensures.front
+    c.in_default-after_plus_or_minus.ensures.front)
