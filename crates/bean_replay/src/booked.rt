@@ -85,11 +85,7 @@ fn take_all<'a, S: Bookings<'a> + Drop>(
 
 /// Adds the faults that are found before the first directive is taken: those of texts, and those of
 /// lines of methods.
-fn note_before(
-    alloc: Global,
-    loaded: &Loaded<'_>,
-    faults: &mut FaultLog,
-) -> Result<(), AllocError>
+fn note_before(alloc: Global, loaded: &Loaded<'_>, faults: &mut FaultLog) -> Result<(), AllocError>
     ensures { OnOk result (faults.new ≡ with_found (spec.faults_before loaded.now) faults.old) }
 {
     if !faults.is_kept() {

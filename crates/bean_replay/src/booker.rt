@@ -154,13 +154,7 @@ impl<'a> Booker<'a> {
         }
         let at = written.place();
         let postings = written.transaction().postings.as_slice();
-        note_balance(
-            &mut self.scales,
-            &mut self.faults,
-            at,
-            postings,
-            &tried,
-        )?;
+        note_balance(&mut self.scales, &mut self.faults, at, postings, &tried)?;
         let mut posted = tried.posted.into_vec();
         book_postings(
             self.alloc,

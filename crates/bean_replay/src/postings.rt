@@ -61,8 +61,7 @@ fn book_posting<'a>(
     ensures additions { OnOk result (additions_in holdings.new ≡ additions_in holdings.old + 1) }
 {
     let at = place_in(at, postings, posted.written);
-    let near =
-        accounts.note_posting(&mut posted.account, &posted.units.currency, at, faults)?;
+    let near = accounts.note_posting(&mut posted.account, &posted.units.currency, at, faults)?;
     holdings.post(alloc, posted, near)
 }
 

@@ -19,7 +19,8 @@ use Rattle.bean_directives.specs.declared.undated.PushName.TheVariants as names
 use Rattle.bean_grammar.specs.declared.mark.Mark.{Mark}
 use Rattle.bean_grammar.specs.declared.mark.Mark.TheVariants as mark
 use Rattle.bean_grammar.specs.declared.metadata.MetaEntry.{MetaEntry}
-use Rattle.bean_pushes.specs.Scope.{entries_with, name_of, with_pushed, with_pushes, with_tag}
+use Rattle.bean_directives.specs.Given.{entries_with, with_pushed, with_tag}
+use Rattle.bean_pushes.specs.Scope.{name_of, with_pushes}
 use Rattle.push_laws.proofs.FirstFacts.{first_of, same_first}
 use Rattle.push_laws.proofs.GivenFacts.{each_at, each_given, given, latest_given, with_each_is}
 use Rattle.push_laws.proofs.GivenFacts.{with_pushes_is}

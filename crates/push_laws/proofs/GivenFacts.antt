@@ -7,7 +7,8 @@ use Rattle.bean_directives.specs.declared.undated.Bound.{Bound}
 use Rattle.bean_directives.specs.declared.undated.Bound.TheVariants.{Push, Pop}
 use Rattle.bean_directives.specs.declared.undated.Pushed.{Pushed}
 use Rattle.bean_pushes.specs.Scope.{given_behind, given_between, given_up_to, latest, name_in, name_of}
-use Rattle.bean_pushes.specs.Scope.{open_pushes, reach_of, with_pushed, with_pushes}
+use Rattle.bean_pushes.specs.Scope.{open_pushes, reach_of, with_pushes}
+use Rattle.bean_directives.specs.Given.{with_pushed}
 use Rattle.bean_pushes.specs.declared.scope.PlacedBound.{PlacedBound}
 use Rattle.push_laws.specs.EachPush.{given_by, pop_of, with_each}
 
