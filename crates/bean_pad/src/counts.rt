@@ -7,6 +7,7 @@ ghost use Rattle.std.specs.Str.{bytes_eq};
 ghost use Rattle.bean_pad.specs.Counts.{count_at, same_at};
 
 use bean_base::Currency;
+use byte_runs::end_of;
 use indexmap::IndexMap;
 use std::alloc::{AllocError, Global};
 
@@ -15,6 +16,17 @@ use std::alloc::{AllocError, Global};
 pub(crate) struct At<'a> {
     pub number: usize,
     pub currency: Currency<'a>,
+}
+
+/// How many currencies under accounts are told apart before any is compared.
+const ENDS: usize = 8_192;
+
+impl At<'_> {
+    /// The number under which the place of its count is noted.
+    #[inline(always)]
+    fn end(&self) -> usize {
+        end_of(self.currency.text(), self.number, ENDS)
+    }
 }
 
 /// Places at which counts were found last, by number; the first of all where none is noted. Nothing
@@ -47,7 +59,7 @@ impl Places {
 #[derive(Drop)]
 pub(crate) struct Counts<'a> {
     pub by_number: IndexMap<At<'a>, i128>,
-    /// By the number of an account, where a count of its own was found last.
+    /// By the end of a currency under an account, where a count of such an end was found last.
     found: Places,
     /// By the place of a count, where that of the account above was found last, which is of the same
     /// currency.
@@ -78,7 +90,7 @@ impl<'a> Counts<'a> {
             number,
             currency: currency.lend(),
         };
-        match self.place_of(&at, self.found.at(number)) {
+        match self.place_of(&at, self.found.at(at.end())) {
             Some(place) => self.by_number[place],
             None => 0,
         }
@@ -110,30 +122,31 @@ impl<'a> Counts<'a> {
         self.by_number.get_index_of(at)
     }
 
-    /// The place at which a count of a number is looked for first, where the count of an account below
-    /// stands at `below`, if there is one.
-    fn first_place(&self, number: usize, below: Option<usize>) -> usize {
+    /// The place at which a count is looked for first, where that of an account below stands at
+    /// `below`, if there is one.
+    fn first_place(&self, at: &At<'_>, below: Option<usize>) -> usize {
         match below {
             Some(below) => self.above.at(below),
-            None => self.found.at(number),
+            None => self.found.at(at.end()),
         }
     }
 
-    /// Notes the place at which it was found, unless it is looked for there already.
+    /// Notes the place at which it was found, unless it was looked for there first.
     fn note_place(
         &mut self,
-        number: usize,
+        at: &At<'_>,
         below: Option<usize>,
+        first: usize,
         place: usize,
     ) -> Result<(), AllocError>
         ensures { self.new.by_number.entries ≡ self.old.by_number.entries }
     {
-        if self.first_place(number, below) == place {
+        if place == first {
             return Ok(());
         }
         match below {
             Some(below) => self.above.note(below, place),
-            None => self.found.note(number, place),
+            None => self.found.note(at.end(), place),
         }
     }
 
@@ -172,11 +185,11 @@ impl<'a> Counts<'a> {
             number,
             currency: currency.lend(),
         };
-        let first = self.first_place(number, below);
+        let first = self.first_place(&at, below);
         let Some(place) = self.place_of(&at, first) else {
             return self.begin(at, count);
         };
-        self.note_place(number, below, place)?;
+        self.note_place(&at, below, first, place)?;
         self.by_number[place] += count;
         Ok(place)
     }

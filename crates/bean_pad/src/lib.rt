@@ -45,14 +45,14 @@
 //! # Cost
 //!
 //! A posting takes a look-up of its account's name, and for the account and each above it one by a
-//! number and a currency; so do the two postings of a padding. A count is found with no look-up
-//! where it is the one that was found last by that number, or for an account above by the count of the
-//! one below it: its currency is compared alone. The first posting on an account goes through its
-//! components too: each is looked up below the number of what stands above it. So does a balance on an
-//! account that has no postings of its own. A pad and a balance take a few look-ups more. `finish` goes
-//! over pads and balances alone. Memory is taken for each account and each above it, and for each of
-//! their currencies, for each pad and for each balance. Sums are of 128 bits: each is at most `10^20`
-//! times the number of steps, which is below `2^40`.
+//! number and a currency; so do the two postings of a padding. Nothing is hashed where what is looked
+//! for stands where it was found last: a name by how it ends, a count by the number of its account and
+//! its currency, that of an account above by the count of the one below. The first posting on an
+//! account goes through its components too: each is looked up below the number of what stands above
+//! it. So does a balance on an account that has no postings of its own. A pad and a balance take a few
+//! look-ups more. `finish` goes over pads and balances alone. Memory is taken for each account and each
+//! above it, and for each of their currencies, for each pad and for each balance. Sums are of 128 bits:
+//! each is at most `10^20` times the number of steps, which is below `2^40`.
 #![tactic(auto)]
 
 mod balanced;

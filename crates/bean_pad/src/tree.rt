@@ -1,10 +1,11 @@
 //! Accounts by number. Each stands below another, or below none, so a name is gone through once,
 //! however many accounts stand above it.
-ghost use Rattle.std.specs.Prelude.{◌≡◌, ◌<◌, ◌≤◌, [], ◌∷◌, IfOk, OnOk, List, ℕ, Some, length};
+ghost use Rattle.std.specs.Prelude.{◌≡◌, ◌<◌, ◌≤◌, [], ◌∷◌, IfOk, IfSome, OnOk, List, ℕ, Some, length};
 ghost use Rattle.std.specs.Option.{option_and_then};
 ghost use Rattle.bean_pad.specs.Tree.{AreAbove, Grows, number_below, number_by, number_of};
 
 use bean_base::Slice;
+use byte_runs::Hints;
 use indexmap::{IndexMap, IndexSet};
 use std::alloc::{AllocError, Global};
 use std::marker::Model;
@@ -26,6 +27,8 @@ pub(crate) struct Tree<'a> {
     nodes: IndexSet<Below<'a>>,
     /// The numbers of accounts whose whole names were met.
     known: IndexMap<Slice<'a>, usize>,
+    /// The places of those that were found last.
+    hints: Hints,
 }
 
 impl<'a> Model for Tree<'a> {
@@ -48,6 +51,7 @@ impl<'a> Tree<'a> {
         Tree {
             nodes: IndexSet::new(alloc),
             known: IndexMap::new(alloc),
+            hints: Hints::new(alloc),
         }
     }
 
@@ -122,19 +126,46 @@ impl<'a> Tree<'a> {
         Ok(number)
     }
 
-    /// The number of an account; it and those above it are given one where they have none. A name
-    /// that was met before is looked up whole.
+    /// The number of an account whose name was met at that place, if it is this one.
+    #[inline(always)]
+    fn known_at(&self, place: usize, name: &str) -> Option<usize>
+        ensures { IfSome result (λ n. number_of self.now name.now ≡ Some n) }
+    {
+        let (known, number) = self.known.get_index(place)?;
+        if *known == Slice::new(name) {
+            return Some(*number);
+        }
+        None
+    }
+
+    /// The number of an account whose name isn't where it was found last; it and those above it are
+    /// given one where they have none. A name that was met before is looked up whole.
+    #[inline(never)]
+    fn number_elsewhere(&mut self, name: &'a str) -> Result<usize, AllocError>
+        ensures grows { Grows self.old self.new }
+        ensures above { OnOk result (AreAbove self.new) }
+        ensures number { IfOk result (λ n. number_of self.new name.now ≡ Some n) }
+    {
+        if let Some((place, _, number)) = self.known.get_full(&Slice::new(name)) {
+            let number = *number;
+            self.hints.note(name, place);
+            return Ok(number);
+        }
+        let number = self.add(name)?;
+        self.known.insert(Slice::new(name), number)?;
+        Ok(number)
+    }
+
+    /// The number of an account; it and those above it are given one where they have none.
     pub fn number(&mut self, name: &'a str) -> Result<usize, AllocError>
         ensures grows { Grows self.old self.new }
         ensures above { OnOk result (AreAbove self.new) }
         ensures number { IfOk result (λ n. number_of self.new name.now ≡ Some n) }
     {
-        if let Some(number) = self.known.get(&Slice::new(name)) {
-            return Ok(*number);
+        match self.known_at(self.hints.place_for(name), name) {
+            Some(number) => Ok(number),
+            None => self.number_elsewhere(name),
         }
-        let number = self.add(name)?;
-        self.known.insert(Slice::new(name), number)?;
-        Ok(number)
     }
 
     /// The number of the account above one, 0 where there is none.
