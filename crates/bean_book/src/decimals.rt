@@ -6,30 +6,30 @@ ghost use Rattle.posting_table.specs.Decimals.{decimals_of};
 ghost use Rattle.bean_book.specs.Booked.{decimals_from};
 ghost use Rattle.bean_book.specs.Rows.{written_in};
 
-use bean_base::Amount;
+use bean_base::Currency;
 use bean_postings::{Units, WrittenPosting};
 use posting_table::Ledger;
 use std::alloc::AllocError;
 
-/// Shows at least the decimals of a number.
-fn note_amount<'a>(
+/// Shows at least so many decimals of a currency.
+#[inline(always)]
+fn note_places<'a>(
     ledger: &mut Ledger<'a>,
     near: &mut usize,
-    units: &Amount<'a>,
+    places: u8,
+    currency: Currency<'a>,
 ) -> Result<(), AllocError>
     ensures decimals { OnOk result ((name : List ℕ) → decimals_of ledger.new.decimals name
-        ≡ (if bytes_eq units.now.currency name
-        then max (decimals_of ledger.old.decimals name) units.now.number.places
+        ≡ (if bytes_eq currency.entry name
+        then max (decimals_of ledger.old.decimals name) places
         else decimals_of ledger.old.decimals name)) }
     ensures rows { OnOk result (ledger.new.rows ≡ ledger.old.rows) }
 {
-    let places = units.number.places;
-    let shown = ledger.display().places_near(&units.currency, near);
-    // A currency that shows none is set too: so it is found at once where it is shown.
-    if shown == 0 || shown < places {
-        ledger.set_display(units.currency.lend(), places)?;
+    match ledger.display().set_near(&currency, near) {
+        Some(shown) if places <= shown => Ok(()),
+        // A currency that shows none is set too: so it is found at once where it is shown.
+        _ => ledger.set_display(currency, places),
     }
-    Ok(())
 }
 
 /// Shows at least the decimals of the number that is written for a posting's units.
@@ -43,7 +43,7 @@ fn note_posting<'a>(
     ensures rows { OnOk result (ledger.new.rows ≡ ledger.old.rows) }
 {
     match posting.units() {
-        Units::Amount(units) => note_amount(ledger, near, &units),
+        Units::Amount(units) => note_places(ledger, near, units.number.places, units.currency),
         _ => Ok(()),
     }
 }

@@ -1,5 +1,5 @@
 //! How many decimals each currency shows.
-ghost use Rattle.std.specs.Prelude.{◌≡◌, IfSome, OnOk, OnErr};
+ghost use Rattle.std.specs.Prelude.{◌≡◌, IfSome, OnOk, OnErr, unwrap_or};
 ghost use Rattle.std.specs.FinMap as map;
 ghost use Rattle.posting_table.specs.Decimals.{decimals_of};
 
@@ -44,8 +44,16 @@ impl<'a> Display<'a> {
     pub fn places_near(&self, currency: &Currency<'_>, near: &mut usize) -> u8
         ensures { result ≡ decimals_of self.now currency.now }
     {
+        self.set_near(currency, near).unwrap_or(0)
+    }
+
+    /// The decimals that are set for a currency, if any are, found in the same way.
+    #[inline(always)]
+    pub fn set_near(&self, currency: &Currency<'_>, near: &mut usize) -> Option<u8>
+        ensures { unwrap_or result 0 ≡ decimals_of self.now currency.now }
+    {
         match self.places_at(*near, currency) {
-            Some(places) => places,
+            Some(places) => Some(places),
             None => self.places_found(currency, near),
         }
     }
@@ -63,20 +71,18 @@ impl<'a> Display<'a> {
 
     /// The same, where it isn't that one.
     #[inline(never)]
-    fn places_found(&self, currency: &Currency<'_>, near: &mut usize) -> u8
-        ensures { result ≡ decimals_of self.now currency.now }
+    fn places_found(&self, currency: &Currency<'_>, near: &mut usize) -> Option<u8>
+        ensures { unwrap_or result 0 ≡ decimals_of self.now currency.now }
     {
         for place in 0..FEW {
             if let Some(places) = self.places_at(place, currency) {
                 *near = place;
-                return places;
+                return Some(places);
             }
         }
-        let Some(place) = self.places.get_index_of(currency) else {
-            return 0;
-        };
+        let place = self.places.get_index_of(currency)?;
         *near = place;
-        self.places[place]
+        Some(self.places[place])
     }
 
     /// Sets the decimals of one currency; the others stay as they were.
