@@ -1,11 +1,10 @@
 -- Booked postings that have nothing of their own but what they add to their accounts, and
 -- transactions that have nothing of what few have.
-use Rattle.std.specs.Prelude.{◌≡◌, ℕ, List, [], None}
+use Rattle.std.specs.Prelude.{◌≡◌, ℕ, List, [], Option, None}
 use Rattle.bean_holdings.specs.declared.posted.Posted.{Posted}
 use Rattle.bean_postings.specs.Details.{IsLineAlone}
 use Rattle.bean_postings.specs.declared.posting.Posting.{Posting}
 use Rattle.bean_replay.specs.declared.written.WrittenParts.{WrittenParts as Written}
-use Rattle.posting_entries.specs.Extras.{payee_of}
 use Rattle.bean_book.specs.Details.{told}
 use Rattle.bean_book.specs.declared.details.Details.{Details}
 
@@ -14,9 +13,10 @@ pub record IsPlain (w : Posting) (p : Posted) : Type 0 where
   pub alone : IsLineAlone w.details
   pub held : p.lot ≡ None
 
--- no marks and no metadata that are told, and these are the texts, no bytes where there is no payee
-pub record IsPlainEntry (details : Details) (w : Written) (first second : List ℕ) : Type 0 where
-  pub payee : payee_of first ≡ w.transaction.payee
+-- no marks and no metadata that are told, and these are the payee and the narration
+pub record IsPlainEntry (details : Details) (w : Written) (first : Option (List ℕ)) (second : List ℕ)
+    : Type 0 where
+  pub payee : first ≡ w.transaction.payee
   pub narration : second ≡ w.transaction.narration
   pub marks : told details w.transaction.marks ≡ []
   pub metadata : told details w.metadata ≡ []

@@ -2,7 +2,6 @@
 ghost use Rattle.std.specs.Prelude.{◌≡◌, ◌++◌, ◌∷◌, [], IfOk, IfSome, OnOk, codes, map};
 ghost use Rattle.std.specs.List.{flat_map};
 ghost use Rattle.query_values.specs.TextSet.{set_of};
-ghost use Rattle.posting_entries.specs.Extras.{payee_of};
 ghost use Rattle.bean_book.specs.Details.{accounts_told};
 ghost use Rattle.bean_book.specs.Plain.{IsPlainEntry};
 ghost use Rattle.bean_book.specs.Rows as spec;
@@ -21,17 +20,16 @@ use posting_entries::{
 use query_values::TextSet;
 use std::alloc::{AllocError, Global};
 
-/// The names of the tags among marks. Few transactions have any: it stays out of what is done for
-/// each.
-#[inline(never)]
-fn tags_among<'a>(alloc: Global, marks: &[Mark<'a>]) -> Result<Shared<TextSet<'a>>, AllocError>
-    ensures { IfOk result (λ set. set ≡ set_of (flat_map spec.tag_in marks.now)) }
+/// A set of names. That of none stands once for all.
+fn shared_set<'a>(
+    alloc: Global,
+    none: &NoExtras<'a>,
+    names: Vec<Slice<'a>>,
+) -> Result<Shared<TextSet<'a>>, AllocError>
+    ensures { IfOk result (λ set. set ≡ set_of names.entry.items) }
 {
-    let mut names = Vec::new(alloc);
-    for mark in marks {
-        if let Mark::Tag(tag) = mark {
-            names.push(Slice::new(tag.text()))?;
-        }
+    if names.is_empty() {
+        return none.no_texts();
     }
     Shared::new(alloc, TextSet::new(names))
 }
@@ -44,24 +42,13 @@ fn tags_of<'a>(
 ) -> Result<Shared<TextSet<'a>>, AllocError>
     ensures { IfOk result (λ set. set ≡ set_of (flat_map spec.tag_in marks.now)) }
 {
-    if marks.is_empty() {
-        return none.no_texts();
-    }
-    tags_among(alloc, marks)
-}
-
-/// The names of the links among marks, made apart as those of tags are.
-#[inline(never)]
-fn links_among<'a>(alloc: Global, marks: &[Mark<'a>]) -> Result<Shared<TextSet<'a>>, AllocError>
-    ensures { IfOk result (λ set. set ≡ set_of (flat_map spec.link_in marks.now)) }
-{
     let mut names = Vec::new(alloc);
     for mark in marks {
-        if let Mark::Link(link) = mark {
-            names.push(Slice::new(link.text()))?;
+        if let Mark::Tag(tag) = mark {
+            names.push(Slice::new(tag.text()))?;
         }
     }
-    Shared::new(alloc, TextSet::new(names))
+    shared_set(alloc, none, names)
 }
 
 /// The names of the links.
@@ -72,13 +59,17 @@ fn links_of<'a>(
 ) -> Result<Shared<TextSet<'a>>, AllocError>
     ensures { IfOk result (λ set. set ≡ set_of (flat_map spec.link_in marks.now)) }
 {
-    if marks.is_empty() {
-        return none.no_texts();
+    let mut names = Vec::new(alloc);
+    for mark in marks {
+        if let Mark::Link(link) = mark {
+            names.push(Slice::new(link.text()))?;
+        }
     }
-    links_among(alloc, marks)
+    shared_set(alloc, none, names)
 }
 
 /// The accounts of booked postings, where they are told.
+#[inline(always)]
 fn accounts_of<'a>(
     alloc: Global,
     details: Details,
@@ -94,6 +85,7 @@ fn accounts_of<'a>(
 }
 
 /// The set of the accounts of booked postings. Most transactions have two.
+#[inline(never)]
 fn set_of_accounts<'a>(alloc: Global, posted: &[Posted<'a>]) -> Result<TextSet<'a>, AllocError>
     ensures { IfOk result (λ set. set ≡ set_of (map (λ p. p.account) posted.now)) }
 {
@@ -132,25 +124,10 @@ fn slice_of<'a>(text: &Text<'a>) -> Option<Slice<'a>>
     Some(Slice::new(text.plain()?))
 }
 
-/// A payee as it is written, no bytes where there is none; none where it has an escape, or is there
-/// and has no bytes.
-fn payee_slice<'a>(payee: &Payee<'a>) -> Option<Slice<'a>>
-    ensures { IfSome result (λ slice. payee_of slice ≡ payee.now) }
-{
-    let Some(payee) = payee.text() else {
-        return Some(Slice::new(""));
-    };
-    let slice = slice_of(&payee)?;
-    if slice.text().is_empty() {
-        return None;
-    }
-    Some(slice)
-}
-
-/// The texts of a transaction as they are written, the payee of no bytes where there is none.
+/// The texts of a transaction as they are written.
 #[derive(Drop)]
 struct Texts<'a> {
-    payee: Slice<'a>,
+    payee: Option<Slice<'a>>,
     narration: Slice<'a>,
 }
 
@@ -165,8 +142,12 @@ fn plain_texts<'a>(details: Details, written: &Written<'a>) -> Option<Texts<'a>>
     if !marks.is_empty() || !details.told(written.metadata()).is_empty() {
         return None;
     }
+    let payee = match transaction.payee.text() {
+        Some(payee) => Some(slice_of(&payee)?),
+        None => None,
+    };
     Some(Texts {
-        payee: payee_slice(&transaction.payee)?,
+        payee,
         narration: slice_of(&transaction.narration)?,
     })
 }

@@ -4,7 +4,6 @@ use Rattle.std.specs.Int.RustNames.{unsigned_abs}
 use Rattle.bean_base.specs.Flag.{spelling}
 use Rattle.posting_entries.specs.declared.entry.EntryParts.{EntryParts}
 use Rattle.posting_entries.specs.declared.entry.PlainParts.{PlainParts}
-use Rattle.posting_entries.specs.Extras.{payee_of}
 use Rattle.posting_entries.specs.declared.entry.EntryFlag.{EntryFlag}
 use Rattle.posting_entries.specs.declared.entry.EntryFlag.TheVariants.{Written, Padding}
 use Rattle.query_terms.specs.declared.column.Column.{Column}
@@ -17,7 +16,7 @@ use Rattle.query_values.specs.declared.value.Value.TheVariants.{Null, Text, Day,
 -- the parts of a transaction that has nothing of what few have
 abbrev pub plain_parts : PlainParts → EntryParts
 plain_parts p = record {
-  payee = payee_of p.payee;
+  payee = p.payee;
   narration = p.narration;
   tags = [];
   links = [];

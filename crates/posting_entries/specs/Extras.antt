@@ -1,5 +1,5 @@
 -- What few transactions have, and what all have instead.
-use Rattle.std.specs.Prelude.{ℕ, List, [], ◌∷◌, Option, Some, None}
+use Rattle.std.specs.Prelude.{ℕ, List, [], Option, Some, None}
 use Rattle.posting_entries.specs.declared.extras.Extras.{Extras}
 use Rattle.posting_entries.specs.declared.extras.Texts.{Texts}
 
@@ -7,15 +7,10 @@ use Rattle.posting_entries.specs.declared.extras.Texts.{Texts}
 abbrev pub no_extras : Extras
 no_extras = record { texts = None; tags = []; links = []; metadata = [] }
 
--- the payee that a slice is: a slice of no bytes is none
-abbrev pub payee_of : List ℕ → Option (List ℕ)
-payee_of [] = None
-payee_of (b ∷ bs) = Some (b ∷ bs)
-
 -- the payee and the narration, which are slices where no texts are kept beside them
 
-abbrev pub payee_in : List ℕ → Option Texts → Option (List ℕ)
-payee_in slice None = payee_of slice
+abbrev pub payee_in : Option (List ℕ) → Option Texts → Option (List ℕ)
+payee_in slice None = slice
 payee_in slice (Some texts) = texts.payee
 
 abbrev pub narration_in : List ℕ → Option Texts → List ℕ

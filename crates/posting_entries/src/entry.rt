@@ -2,7 +2,6 @@
 ghost use Rattle.std.specs.Prelude.{◌≡◌, IfOk, IfSome};
 ghost use Rattle.std.specs.Option.{option_copied};
 ghost use Rattle.posting_entries.specs.Entry.{entry_cell, entry_spelling, plain_parts};
-ghost use Rattle.posting_entries.specs.Extras as spec;
 ghost use Rattle.query_rows.specs.Row as rows;
 
 use crate::extras::{Extras, NoExtras, Texts};
@@ -54,8 +53,7 @@ pub struct EntryParts<'a> {
 /// metadata, and whose texts are as they are written, as nearly all are.
 #[derive(Drop)]
 pub struct PlainParts<'a> {
-    /// The payee; no bytes where there is none.
-    pub payee: Slice<'a>,
+    pub payee: Option<Slice<'a>>,
     pub narration: Slice<'a>,
     /// The accounts of all its postings.
     pub accounts: TextSet<'a>,
@@ -66,8 +64,7 @@ pub struct PlainParts<'a> {
 /// What the postings of a transaction have in common, in little memory: texts are slices where both
 /// are as they are written, and what few transactions have lies apart. Its value is its parts.
 pub struct Entry<'a> {
-    /// The payee; no bytes where there is none.
-    payee: Slice<'a>,
+    payee: Option<Slice<'a>>,
     narration: Slice<'a>,
     accounts: TextSet<'a>,
     extras: Shared<Extras<'a>>,
@@ -107,34 +104,24 @@ impl<'a> Model for Entry<'a> {
     } };
 }
 
-/// A payee and a narration as they are written, the payee of no bytes where there is none.
+/// A payee and a narration as they are written.
 #[derive(Drop)]
 struct Slices<'a> {
-    payee: Slice<'a>,
+    payee: Option<Slice<'a>>,
     narration: Slice<'a>,
-}
-
-/// A payee as a slice: none where it was made, or is there and has no bytes.
-fn payee_slice<'a>(payee: &Option<PlainText<'a>>) -> Option<Slice<'a>>
-    ensures { IfSome result (λ slice. spec.payee_of slice ≡ payee.now) }
-{
-    let Some(payee) = payee else {
-        return Some(Slice::new(""));
-    };
-    let slice = payee.slice()?;
-    if slice.text().is_empty() {
-        return None;
-    }
-    Some(slice)
 }
 
 /// A payee and a narration as slices, where they are as they are written.
 fn slices_of<'a>(payee: &Option<PlainText<'a>>, narration: &PlainText<'a>) -> Option<Slices<'a>>
-    ensures { IfSome result (λ slices. (spec.payee_of slices.payee ≡ payee.now)
+    ensures { IfSome result (λ slices. (slices.payee ≡ payee.now)
         × (slices.narration ≡ narration.now)) }
 {
+    let payee = match payee {
+        Some(payee) => Some(payee.slice()?),
+        None => None,
+    };
     Some(Slices {
-        payee: payee_slice(payee)?,
+        payee,
         narration: narration.slice()?,
     })
 }
@@ -208,7 +195,7 @@ impl<'a> Entry<'a> {
             metadata: parts.metadata,
         };
         Ok(Entry {
-            payee: Slice::new(""),
+            payee: None,
             narration: Slice::new(""),
             accounts: parts.accounts,
             extras: Shared::new(alloc, extras)?,
@@ -227,11 +214,10 @@ impl<'a> Entry<'a> {
                 None => None,
             };
         }
-        let payee = self.payee.text();
-        if payee.is_empty() {
-            return None;
+        match &self.payee {
+            Some(payee) => Some(payee.text()),
+            None => None,
         }
-        Some(payee)
     }
 
     /// The narration.

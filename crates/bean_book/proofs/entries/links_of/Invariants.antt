@@ -1,7 +1,7 @@
 use Rattle.std.proofs.Common.{◌≡◌, take}
 use Rattle.std.specs.List.{flat_map}
 use Rattle.bean_book.specs.Rows.{link_in}
-use Rattle.bean_book.proofs.entries.links_among.Given as goal
+use Rattle.bean_book.proofs.entries.links_of.Given as goal
 
 abbrev pub invariant-loop-mark : goal.invariant-loop-mark
 invariant-loop-mark l = l.names.items ≡ flat_map link_in (take l.mark-index l.marks)
