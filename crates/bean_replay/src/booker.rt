@@ -39,13 +39,6 @@ use refusals::Refusal;
 use std::alloc::Global;
 use std::mem::replace;
 
-/// How many transactions are given up at once.
-const MANY: usize = 8_192;
-
-/// The most postings of those: a larger transaction is given up by itself, so that what waits stays
-/// small.
-const FEW_POSTINGS: usize = 8;
-
 /// The place of a directive.
 fn place_of(placed: &Placed<ApartDirective<'_>>) -> Place
     ensures { result ≡ spec.place_of placed.now }
@@ -54,19 +47,6 @@ fn place_of(placed: &Placed<ApartDirective<'_>>) -> Place
         file: placed.file as usize,
         line: placed.item.get().line as usize,
     }
-}
-
-/// Gives a transaction up, together with many others. The memory of one alone is a hole between those of
-/// others, and whatever takes memory next looks through all holes; that of many lies side by side.
-fn give_up<'a>(spent: &mut Vec<Written<'a>>, written: Written<'a>) {
-    if written.transaction().postings.as_slice().len() > FEW_POSTINGS {
-        return;
-    }
-    if spent.len() >= MANY {
-        spent.clear();
-    }
-    // Where memory lacks for the list it is given up at once.
-    let _ = spent.push(written);
 }
 
 /// What is known of all that was booked so far. What is booked itself is handed over.
@@ -78,8 +58,6 @@ pub(crate) struct Booker<'a> {
     scales: Scales<'a>,
     /// A list that is used no more, for what the next transaction is booked as.
     spare: Vec<Posted<'a>>,
-    /// Transactions that were handed over, up to [`MANY`].
-    spent: Vec<Written<'a>>,
     pub padder: Padder<'a>,
     /// Whether any directive is a pad or a balance. Where none is the padder is shown nothing, so
     /// that such a ledger sums nothing up.
@@ -98,7 +76,6 @@ impl Drop for Booker<'_> {
             holdings: _,
             scales: _,
             spare: _,
-            spent: _,
             padder: _,
             watched: _,
             faults: _,
@@ -126,7 +103,6 @@ impl<'a> Booker<'a> {
             holdings: Holdings::new(alloc),
             scales: Scales::new(alloc),
             spare: Vec::new(alloc),
-            spent: Vec::new(alloc),
             padder: Padder::new(alloc),
             watched,
             faults: asked.emptied(alloc),
@@ -316,14 +292,13 @@ impl<'a> Booker<'a> {
     }
 
     /// Takes back what was booked of a directive, once it is handed over: the next transaction is
-    /// booked in its memory.
+    /// booked in its memory. The directive is given up, and what is made of the next comes to lie there.
     pub(crate) fn reuse(&mut self, booked: Option<Draft<'a>>)
         ensures standing { Wherever self.old (λ m past st. IsStanding m past st self.new) }
         ensures asks { asks self.new ≡ asks self.old }
     {
         if let Some(Draft::Transaction(kept)) = booked {
             self.spare = kept.postings.into_vec();
-            give_up(&mut self.spent, kept.written);
         }
     }
 

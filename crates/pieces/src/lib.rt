@@ -17,7 +17,7 @@
 //!
 //! # Cost
 //!
-//! A piece has 512 items. `new` takes no memory; `push` and `at` take a few steps. Items that are
+//! A piece has 1,024 items. `new` takes no memory; `push` and `at` take a few steps. Items that are
 //! taken out of a list are moved once each, and a piece is given up as soon as it is empty. `Parts` hand
 //! out each piece as it lies; `forget_items` gives the memory of one back without a look at its items.
 #![tactic(auto)]

@@ -13,7 +13,7 @@ use std::marker::Model;
 use std::mem::replace;
 
 /// How many items a piece has.
-pub(crate) const PIECE: usize = 512;
+pub(crate) const PIECE: usize = 1_024;
 
 /// A list in pieces.
 #[derive(Drop)]

@@ -64,7 +64,7 @@
 //!
 //! A row is moved in once, and once more where it is taken out and put back; it takes 48 bytes. Where
 //! it has a lot, a weight, a flag or metadata of its own, these lie apart. Rows lie in pieces of
-//! 24 KiB, so that none is moved when there are more, and they take memory that others gave up.
+//! 48 KiB, so that none is moved when there are more, and they take memory that others gave up.
 //! `cell` and `len` take a few steps, `push` and `set_display` a few on the average, `meta` and
 //! `entry_meta` look at each entry, and `fits` at each row, but for the widest bounds at none. `new`
 //! takes no memory.

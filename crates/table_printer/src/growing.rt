@@ -7,8 +7,8 @@ use bean_base::List;
 use std::alloc::{AllocError, Global};
 use std::mem::replace;
 
-/// How many bytes a piece has room for: as many as 512 rows of a ledger take.
-const PIECE: usize = 24_576;
+/// How many bytes a piece has room for: as many as 1,024 rows of a ledger take.
+const PIECE: usize = 49_152;
 
 /// Where a piece has so many bytes, the next line goes to another.
 const MOST: usize = PIECE - 256;

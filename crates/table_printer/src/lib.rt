@@ -60,7 +60,7 @@
 //! and changes places with the rows. Whether the last column has a number is looked up first.
 //! The memory is that of the text, of a word or two for each column, and of what `cell_texts` uses again
 //! for every cell. `print` takes room for a text at once, where its columns are narrow. A `Printer` takes
-//! it in pieces of 24 KiB, as much as a ledger has for 512 rows, so that one lies where these were.
+//! it in pieces of 48 KiB, as much as a ledger has for 1,024 rows, so that one lies where these were.
 #![tactic(auto)]
 
 mod answers;

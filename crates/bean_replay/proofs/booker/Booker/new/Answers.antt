@@ -16,13 +16,13 @@ returns-clause-stands c = λ m methods. record {
   held = record { each = c.new-2.ensures.nothing };
   count = c.new-2.ensures.additions;
   seen = [];
-  follows = c.new-6.ensures.follows;
+  follows = c.new-5.ensures.follows;
   steps_are = steps c.args.watched;
   faults_are = none_asked c.args.asked.now c.emptied.result c.emptied.ensures;
   room = record {
     bounded = c.new-2.ensures.bounded;
-    near = c.new-6.ensures.bounded;
+    near = c.new-5.ensures.bounded;
     few = let none = c.new-2.ensures.additions in omega (arith, none);
-    steps = let none = c.new-6.ensures.steps in omega (arith, none);
+    steps = let none = c.new-5.ensures.steps in omega (arith, none);
   };
 }

@@ -12,18 +12,18 @@ returns-in-Some g c =
     let full = c.self.inside.full.items in
     let last = c.self.inside.last.items in
     let piece = c.in-Some.piece.now in
-    let found : slice_get full (i / 512) ≡ Some piece =
-    subst (λ l. slice_get l (i / 512) ≡ Some piece) c.deref.ensures.value
-    (slice_get-get_or c.deref.result.now (i / 512) piece c.in-Some.ensures.lookup.3.0
+    let found : slice_get full (i / 1024) ≡ Some piece =
+    subst (λ l. slice_get l (i / 1024) ≡ Some piece) c.deref.ensures.value
+    (slice_get-get_or c.deref.result.now (i / 1024) piece c.in-Some.ensures.lookup.3.0
     ∙ ap Some (sym c.in-Some.ensures.lookup.1)) in
-    let at : 512 * (i / 512) + i % 512 ≡ i = div-add-mod i 512 in
-    let less : i % 512 < 512 = mod-lt i (omega arith) in
-    let own = of_full 512 full last (i / 512) (i % 512) piece c.self.invariant.1 found less in
-    let whole = full_at 512 full (i / 512) piece c.self.invariant.1 found in
-    let inside : i % 512 < length piece = omega (arith, whole, less) in
+    let at : 1024 * (i / 1024) + i % 1024 ≡ i = div-add-mod i 1024 in
+    let less : i % 1024 < 1024 = mod-lt i (omega arith) in
+    let own = of_full 1024 full last (i / 1024) (i % 1024) piece c.self.invariant.1 found less in
+    let whole = full_at 1024 full (i / 1024) piece c.self.invariant.1 found in
+    let inside : i % 1024 < length piece = omega (arith, whole, less) in
     let item = c.index-as_slice-index.result in
-    let same = c.index-as_slice-index.is ∙ ap (λ l. get_or l (i % 512) item) c.as_slice.ensures in
-    let is = sym (slice_get-get_or piece (i % 512) item inside ∙ ap Some (sym same)) in
+    let same = c.index-as_slice-index.is ∙ ap (λ l. get_or l (i % 1024) item) c.as_slice.ensures in
+    let is = sym (slice_get-get_or piece (i % 1024) item inside ∙ ap Some (sym same)) in
     is ∙ sym own ∙ ap (slice_get (pieced full last)) at ∙ ap (λ l. slice_get l i) c.self.view_is
 
 pub index-requires : goal.index-requires
@@ -31,13 +31,13 @@ index-requires g c =
     let i = c.args.index in
     let full = c.self.inside.full.items in
     let last = c.self.inside.last.items in
-    let past : length full ≤ i / 512 =
-    subst (λ l. length l ≤ i / 512) c.deref.ensures.value c.in-None.ensures.lookup.3 in
-    let at : 512 * (i / 512) + i % 512 ≡ i = div-add-mod i 512 in
-    let whole = length_is 512 full last c.self.invariant.1 in
+    let past : length full ≤ i / 1024 =
+    subst (λ l. length l ≤ i / 1024) c.deref.ensures.value c.in-None.ensures.lookup.3 in
+    let at : 1024 * (i / 1024) + i % 1024 ≡ i = div-add-mod i 1024 in
+    let whole = length_is 1024 full last c.self.invariant.1 in
     let short = c.self.invariant.2 in
     let below : i < length (pieced full last) = subst (λ l. i < length l) (sym c.self.view_is) c.requires in
-    let within : i % 512 < length last = omega (arith, past, at, whole, short, below) in
+    let within : i % 1024 < length last = omega (arith, past, at, whole, short, below) in
     let count = c.self.inside.last.ok.0 in
     omega (arith, within, count)
 
@@ -46,15 +46,15 @@ returns-in-None g c =
     let i = c.args.index in
     let full = c.self.inside.full.items in
     let last = c.self.inside.last.items in
-    let past : length full ≤ i / 512 =
-    subst (λ l. length l ≤ i / 512) c.deref.ensures.value c.in-None.ensures.lookup.3 in
-    let at : 512 * (i / 512) + i % 512 ≡ i = div-add-mod i 512 in
-    let whole = length_is 512 full last c.self.invariant.1 in
+    let past : length full ≤ i / 1024 =
+    subst (λ l. length l ≤ i / 1024) c.deref.ensures.value c.in-None.ensures.lookup.3 in
+    let at : 1024 * (i / 1024) + i % 1024 ≡ i = div-add-mod i 1024 in
+    let whole = length_is 1024 full last c.self.invariant.1 in
     let short = c.self.invariant.2 in
     let below : i < length (pieced full last) = subst (λ l. i < length l) (sym c.self.view_is) c.requires in
-    let behind : 512 * length full + i % 512 ≡ i = omega (arith, past, at, whole, short, below) in
-    let own = of_last 512 full last (i % 512) c.self.invariant.1 in
-    let within : i % 512 < length last = omega (arith, past, at, whole, short, below) in
+    let behind : 1024 * length full + i % 1024 ≡ i = omega (arith, past, at, whole, short, below) in
+    let own = of_last 1024 full last (i % 1024) c.self.invariant.1 in
+    let within : i % 1024 < length last = omega (arith, past, at, whole, short, below) in
     let item = c.index.result.now in
-    let is = sym (slice_get-get_or last (i % 512) item within ∙ ap Some (sym c.index.ensures)) in
+    let is = sym (slice_get-get_or last (i % 1024) item within ∙ ap Some (sym c.index.ensures)) in
     is ∙ sym own ∙ ap (slice_get (pieced full last)) behind ∙ ap (λ l. slice_get l i) c.self.view_is
