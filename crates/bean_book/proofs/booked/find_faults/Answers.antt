@@ -1,4 +1,4 @@
-use Rattle.std.proofs.Common.{◌≤◌, ◌∙◌, Err, ap, arith, length, refl, reverse, subst, sym}
+use Rattle.std.proofs.Common.{◌≤◌, ◌∙◌, Err, ap, arith, length, reverse, subst, sym}
 use Rattle.std.specs.List.{flat_map}
 use Rattle.bean_accounts.specs.Log.{found as found_in, with_found}
 use Rattle.limits.specs.declared.counts.TheConstants.{MOST_POSTINGS}

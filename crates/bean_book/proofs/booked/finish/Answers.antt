@@ -1,4 +1,4 @@
-use Rattle.std.proofs.Common.{◌≡◌, ◌∙◌, Result, Ok, Err, ap, length, refl, reverse, subst, sym}
+use Rattle.std.proofs.Common.{◌∙◌, Result, Ok, Err, ap, length, refl, reverse, subst, sym}
 use Rattle.std.specs.List.{AllByRecursion}
 use Rattle.bean_loaded.specs.Loaded.{Loaded}
 use Rattle.bean_replay.proofs.PadFacts.{as_many}

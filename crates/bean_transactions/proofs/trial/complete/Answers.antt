@@ -2,7 +2,6 @@ use Rattle.std.proofs.Common.{ap, subst, sym, ◌∙◌, Err}
 use Rattle.bean_interp.specs.Completion.{Completes}
 use Rattle.bean_transactions.specs.Filled.{AreFrom}
 use Rattle.bean_transactions.specs.Tried as spec
-use Rattle.bean_transactions.specs.Tried.{LacksOrIsWide}
 use Rattle.bean_transactions.proofs.FilledFacts.{fills_in_order}
 use Rattle.bean_transactions.proofs.trial.complete.Goals as goal
 
