@@ -14,9 +14,9 @@ pub record IsPlain (w : Posting) (p : Posted) : Type 0 where
   pub held : p.lot ≡ None
 
 -- no marks and no metadata that are told, and these are the payee and the narration
-pub record IsPlainEntry (details : Details) (w : Written) (first : Option (List ℕ)) (second : List ℕ)
+pub record IsPlainEntry (details : Details) (w : Written) (who : Option (List ℕ)) (what : List ℕ)
     : Type 0 where
-  pub payee : first ≡ w.transaction.payee
-  pub narration : second ≡ w.transaction.narration
+  pub payee : who ≡ w.transaction.payee
+  pub narration : what ≡ w.transaction.narration
   pub marks : told details w.transaction.marks ≡ []
   pub metadata : told details w.metadata ≡ []

@@ -21,19 +21,17 @@ pub got : (name : List ℕ) (es : List (List ℕ × ℕ))
 got name es = get-from_entries nat_list_cmp_total es name ∙ found name es
 
 -- where nothing is found
-pub none_found : (o : Option ℕ) → false ≡ is_some o → 0 ≡ unwrap_or o 0
+pub none_found : (o : Option ℕ) → false ≡ is_some o → None ≡ o
 none_found None h = refl
 none_found (Some n) h = absurd (true≢false (sym h))
 
 -- what an entry has is the count at its name, as no two have one name
 pub placed_is : (name : List ℕ) (es : List (List ℕ × ℕ)) (k : List ℕ) (n : ℕ)
     → lookup (pointwise nat_eq k) es ≡ Some n → pointwise nat_eq name k ≡ true
-    → n ≡ decimals_of (from_entries es) name
+    → Some n ≡ get (from_entries {R = slice_cmp nat_cmp} es) name
 placed_is name es k n at h =
     let same : name ≡ k = same_text name k (sym h) in
-    sym
-    (ap (λ o. unwrap_or o 0)
-    (got name es ∙ ap (λ t. lookup (pointwise nat_eq t) es) same ∙ at))
+    sym (got name es ∙ ap (λ t. lookup (pointwise nat_eq t) es) same ∙ at)
 
 -- entries that have the count at the name, and at all others what was there
 pub updated : (before after : List (List ℕ × ℕ)) (name : List ℕ) (count : ℕ)

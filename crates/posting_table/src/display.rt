@@ -1,5 +1,5 @@
 //! How many decimals each currency shows.
-ghost use Rattle.std.specs.Prelude.{◌≡◌, IfSome, OnOk, OnErr, unwrap_or};
+ghost use Rattle.std.specs.Prelude.{◌≡◌, Some, IfSome, OnOk, OnErr};
 ghost use Rattle.std.specs.FinMap as map;
 ghost use Rattle.posting_table.specs.Decimals.{decimals_of};
 
@@ -50,7 +50,7 @@ impl<'a> Display<'a> {
     /// The decimals that are set for a currency, if any are, found in the same way.
     #[inline(always)]
     pub fn set_near(&self, currency: &Currency<'_>, near: &mut usize) -> Option<u8>
-        ensures { unwrap_or result 0 ≡ decimals_of self.now currency.now }
+        ensures { result ≡ map.get self.now currency.now }
     {
         match self.places_at(*near, currency) {
             Some(places) => Some(places),
@@ -61,7 +61,7 @@ impl<'a> Display<'a> {
     /// The decimals of a currency, where they stand at that place.
     #[inline(always)]
     fn places_at(&self, place: usize, currency: &Currency<'_>) -> Option<u8>
-        ensures { IfSome result (λ places. places ≡ decimals_of self.now currency.now) }
+        ensures { IfSome result (λ places. Some places ≡ map.get self.now currency.now) }
     {
         match self.places.get_index(place) {
             Some((found, places)) if *currency == *found => Some(*places),
@@ -72,7 +72,7 @@ impl<'a> Display<'a> {
     /// The same, where it isn't that one.
     #[inline(never)]
     fn places_found(&self, currency: &Currency<'_>, near: &mut usize) -> Option<u8>
-        ensures { unwrap_or result 0 ≡ decimals_of self.now currency.now }
+        ensures { result ≡ map.get self.now currency.now }
     {
         for place in 0..FEW {
             if let Some(places) = self.places_at(place, currency) {

@@ -1,5 +1,5 @@
-use Rattle.std.proofs.Common.{◌≡◌, ◌≤◌, ℕ, List, Bool, true, false, cond, max, nat_eq, refl}
-use Rattle.std.proofs.Common.{ap, subst, ◌∙◌, arith}
+use Rattle.std.proofs.Common.{◌≡◌, ◌≤◌, ℕ, List, Bool, true, false, cond, max, refl}
+use Rattle.std.proofs.Common.{ap, subst, unwrap_or, ◌∙◌, arith}
 use Rattle.std.proofs.lemmas.Result.{on_ok_weaker}
 use Rattle.std.proofs.lemmas.Slice.Eq.{bytes_eq-Decides}
 use Rattle.std.specs.Str.{bytes_eq}
@@ -32,11 +32,11 @@ returns-in_default-clause-decimals c =
     elim c.in_default.branch [
       | in_default-via-in-Some+else-places-shown w ↦
           let shown : w.in-Some.shown ≡ decimals_of old currency =
-          w.in-Some.ensures ∙ ap (λ d. decimals_of d currency) c.display.ensures in
+          ap (λ o. unwrap_or o 0) w.in-Some.ensures ∙ ap (λ d. decimals_of d currency) c.display.ensures in
           omega (arith, shown, w.if-places-shown.false)
       | in_default-via-in_default w ↦
           let none : 0 ≡ decimals_of old currency =
-          w.in_default.ensures ∙ ap (λ d. decimals_of d currency) c.display.ensures in
+          ap (λ o. unwrap_or o 0) w.in_default.ensures ∙ ap (λ d. decimals_of d currency) c.display.ensures in
           omega (arith, none)
     ] in
     on_ok_weaker c.set_display.result
