@@ -7,7 +7,7 @@ ghost use Rattle.std.specs.Str.{bytes_eq};
 ghost use Rattle.bean_pad.specs.Counts.{count_at, same_at};
 
 use bean_base::Currency;
-use byte_runs::end_of;
+use byte_runs::Hints;
 use indexmap::IndexMap;
 use std::alloc::{AllocError, Global};
 
@@ -18,37 +18,27 @@ pub(crate) struct At<'a> {
     pub currency: Currency<'a>,
 }
 
-/// How many currencies under accounts are told apart before any is compared.
-const ENDS: usize = 8_192;
-
-impl At<'_> {
-    /// The number under which the place of its count is noted.
-    #[inline(always)]
-    fn end(&self) -> usize {
-        end_of(self.currency.text(), self.number, ENDS)
-    }
-}
-
-/// Places at which counts were found last, by number; the first of all where none is noted. Nothing
-/// rests on them: what isn't there is looked up.
+/// For the place of each count that at which the count of the account above was found last, which is of
+/// the same currency; the first of all where none is noted. Nothing rests on it: what isn't there is
+/// looked up.
 #[derive(Drop)]
-struct Places {
-    by_number: Vec<usize>,
+struct PlacesAbove {
+    by_place: Vec<usize>,
 }
 
-impl Places {
-    fn at(&self, number: usize) -> usize {
-        match self.by_number.get(number) {
+impl PlacesAbove {
+    fn of(&self, below: usize) -> usize {
+        match self.by_place.get(below) {
             Some(place) => *place,
             None => 0,
         }
     }
 
-    fn note(&mut self, number: usize, place: usize) -> Result<(), AllocError> {
-        if self.by_number.len() <= number {
-            self.by_number.resize(number.saturating_add(1), 0)?;
+    fn note(&mut self, below: usize, place: usize) -> Result<(), AllocError> {
+        if self.by_place.len() <= below {
+            self.by_place.resize(below.saturating_add(1), 0)?;
         }
-        if let Some(noted) = self.by_number.get_mut(number) {
+        if let Some(noted) = self.by_place.get_mut(below) {
             *noted = place;
         }
         Ok(())
@@ -59,11 +49,9 @@ impl Places {
 #[derive(Drop)]
 pub(crate) struct Counts<'a> {
     pub by_number: IndexMap<At<'a>, i128>,
-    /// By the end of a currency under an account, where a count of such an end was found last.
-    found: Places,
-    /// By the place of a count, where that of the account above was found last, which is of the same
-    /// currency.
-    above: Places,
+    /// The places of those that were found last, by their currencies with the numbers beside them.
+    hints: Hints,
+    above: PlacesAbove,
 }
 
 impl<'a> Counts<'a> {
@@ -73,11 +61,9 @@ impl<'a> Counts<'a> {
     {
         Counts {
             by_number: IndexMap::new(alloc),
-            found: Places {
-                by_number: Vec::new(alloc),
-            },
-            above: Places {
-                by_number: Vec::new(alloc),
+            hints: Hints::new(alloc),
+            above: PlacesAbove {
+                by_place: Vec::new(alloc),
             },
         }
     }
@@ -90,7 +76,7 @@ impl<'a> Counts<'a> {
             number,
             currency: currency.lend(),
         };
-        match self.place_of(&at, self.found.at(at.end())) {
+        match self.place_of(&at, self.first_place(&at, None)) {
             Some(place) => self.by_number[place],
             None => 0,
         }
@@ -126,8 +112,8 @@ impl<'a> Counts<'a> {
     /// `below`, if there is one.
     fn first_place(&self, at: &At<'_>, below: Option<usize>) -> usize {
         match below {
-            Some(below) => self.above.at(below),
-            None => self.found.at(at.end()),
+            Some(below) => self.above.of(below),
+            None => self.hints.place_beside(at.currency.text(), at.number),
         }
     }
 
@@ -146,7 +132,10 @@ impl<'a> Counts<'a> {
         }
         match below {
             Some(below) => self.above.note(below, place),
-            None => self.found.note(at.end(), place),
+            None => {
+                self.hints.note_beside(at.currency.text(), at.number, place);
+                Ok(())
+            }
         }
     }
 

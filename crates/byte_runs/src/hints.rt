@@ -28,7 +28,13 @@ impl Hints {
     /// Where to look for a text first.
     #[inline(always)]
     pub fn place_for(&self, text: &str) -> usize {
-        match self.places.get(end_of(text, 0, ENDS)) {
+        self.place_beside(text, 0)
+    }
+
+    /// The same of a text that is looked for with a number beside it, as a currency with that of an account.
+    #[inline(always)]
+    pub fn place_beside(&self, text: &str, number: usize) -> usize {
+        match self.places.get(end_of(text, number, ENDS)) {
             Some(place) => *place as usize,
             None => 0,
         }
@@ -36,13 +42,18 @@ impl Hints {
 
     /// A text was found at a place. Takes memory the first time; where that lacks nothing is noted.
     pub fn note(&mut self, text: &str, place: usize) {
+        self.note_beside(text, 0, place);
+    }
+
+    /// The same of a text with a number beside it.
+    pub fn note_beside(&mut self, text: &str, number: usize, place: usize) {
         let Ok(place) = u16::try_from(place) else {
             return;
         };
         if self.places.is_empty() {
             self.begin();
         }
-        if let Some(own) = self.places.get_mut(end_of(text, 0, ENDS)) {
+        if let Some(own) = self.places.get_mut(end_of(text, number, ENDS)) {
             *own = place;
         }
     }
