@@ -14,7 +14,7 @@ use std::marker::Model;
 use std::mem::replace;
 use std::rc::Rc;
 
-/// How many postings a block of memory has room for.
+/// How many postings a block has room for: as many as a piece of a ledger has rows, which take its place.
 const MOST_TOGETHER: usize = 1_024;
 
 /// How many directives wait at most until a block is full.

@@ -12,7 +12,8 @@ use std::alloc::{AllocError, Global};
 use std::marker::Model;
 use std::mem::replace;
 
-/// How many items a piece has.
+/// How many items a piece has: as many as a block has postings while a text is read, so that a piece of a
+/// ledger's rows, which are as large, takes the memory of a block that was given up.
 pub(crate) const PIECE: usize = 1_024;
 
 /// A list in pieces.
