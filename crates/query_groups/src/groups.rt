@@ -1,12 +1,15 @@
 //! Groups by their keys.
 ghost use Rattle.std.specs.Prelude.{◌≡◌, ◌≢◌, ◌<◌, [], IfOk, None, OnOk, Some, length, slice_get, true};
+ghost use Rattle.std.specs.Map.{lookup};
 ghost use Rattle.indexmap.specs.IndexMap.{index_of_by};
 ghost use Rattle.plain_machine.specs.Gathering.{put, running_values};
 ghost use Rattle.query_rows.specs.Same.{same_values};
+ghost use Rattle.query_values.specs.Equality.{same};
 
 use crate::totals::Totals;
 use byte_runs::Hints;
 use indexmap::IndexMap;
+use query_values::comparison::equal;
 use query_values::{Aggregate, Value};
 use std::alloc::{AllocError, Global};
 use std::marker::Model;
@@ -68,6 +71,30 @@ fn first_text<'r>(keys: &[Value<'r>]) -> Option<&'r str> {
     }
 }
 
+/// Whether a key is the same as another. Most are texts, which are told here, without a call.
+#[inline(always)]
+fn is_same(key: &Value<'_>, other: &Value<'_>) -> bool
+    ensures { result ≡ same key.now other.now }
+{
+    match (key, other) {
+        (Value::Text(key), Value::Text(other)) => key == other,
+        _ => equal(key, other),
+    }
+}
+
+/// Whether keys are the same as others. Mostly there is one.
+#[inline(always)]
+fn are_same<'r>(keys: &[Value<'r>], others: &[Value<'r>]) -> bool
+    ensures { result ≡ same_values keys.now others.now }
+{
+    if let [key] = keys {
+        if let [other] = others {
+            return is_same(key, other);
+        }
+    }
+    LentKey::new(keys) == LentKey::new(others)
+}
+
 /// Whether the group of a number has these keys.
 #[inline(always)]
 fn stands_at<'r>(
@@ -81,7 +108,25 @@ fn stands_at<'r>(
         return false;
     }
     let (key, _) = entries.get_index(number).unwrap();
-    LentKey::new(keys) == LentKey::new(key.as_slice())
+    are_same(keys, key.as_slice())
+}
+
+/// The number of the group of these keys, which are hashed. Where the first is a text, it is noted.
+#[inline(never)]
+fn sought_for<'r>(
+    entries: &IndexMap<ValueKey<'r>, Totals<'r>>,
+    keys: &[Value<'r>],
+    hints: &mut Hints,
+) -> Option<usize>
+    ensures { result ≡ index_of_by (same_values keys.now) entries.now }
+{
+    let found = entries.get_index_of(&LentKey::new(keys));
+    if let Some(number) = found {
+        if let Some(text) = first_text(keys) {
+            hints.note(text, number);
+        }
+    }
+    found
 }
 
 /// The number of the group of these keys. Where the first is a text, the group under such a text that
@@ -94,18 +139,13 @@ fn number_of<'r>(
 ) -> Option<usize>
     ensures { result ≡ index_of_by (same_values keys.now) entries.now }
 {
-    let Some(text) = first_text(keys) else {
-        return entries.get_index_of(&LentKey::new(keys));
-    };
-    let near = hints.place_for(text);
-    if stands_at(entries, near, keys) {
-        return Some(near);
+    if let Some(text) = first_text(keys) {
+        let near = hints.place_for(text);
+        if stands_at(entries, near, keys) {
+            return Some(near);
+        }
     }
-    let found = entries.get_index_of(&LentKey::new(keys));
-    if let Some(number) = found {
-        hints.note(text, number);
-    }
-    found
+    sought_for(entries, keys, hints)
 }
 
 impl<'r> Groups<'r> {
@@ -140,13 +180,29 @@ impl<'r> Groups<'r> {
             (put (running_values aggregates.now) self.old keys.now inputs.now ≡ Some self.new) }
     {
         let Some(number) = number_of(&self.entries, keys, &mut self.hints) else {
-            let mut totals = Totals::start(self.alloc, aggregates)?;
-            totals.gather(aggregates, inputs)?;
-            let key = ValueKey::new(copies(self.alloc, keys)?);
-            self.entries.insert(key, totals)?;
-            return Ok(());
+            return self.put_new(aggregates, keys, inputs);
         };
         self.entries[number].gather(aggregates, inputs)
+    }
+
+    /// Inputs go to a new group behind the others, as that of their keys isn't there.
+    #[inline(never)]
+    fn put_new(
+        &mut self,
+        aggregates: &[Aggregate],
+        keys: &[Value<'r>],
+        inputs: &[Value<'r>],
+    ) -> Result<(), AllocError>
+        requires absent { lookup (same_values keys.now) self.old ≡ None }
+        requires fine { put (running_values aggregates.now) self.old keys.now inputs.now ≢ None }
+        ensures { OnOk result
+            (put (running_values aggregates.now) self.old keys.now inputs.now ≡ Some self.new) }
+    {
+        let mut totals = Totals::start(self.alloc, aggregates)?;
+        totals.gather(aggregates, inputs)?;
+        let key = ValueKey::new(copies(self.alloc, keys)?);
+        self.entries.insert(key, totals)?;
+        Ok(())
     }
 
     /// A group, by its number in order of first appearance.

@@ -41,6 +41,7 @@ fn counts_rows(aggregate: Aggregate) -> bool
 }
 
 #[tactic(auto, using(crate::proofs::TakingFacts::given_is_held, crate::proofs::TakingFacts::given_is))]
+#[inline(always)]
 fn take<'r>(
     aggregate: Aggregate,
     total: &mut Value<'r>,
@@ -54,6 +55,7 @@ fn take<'r>(
 
 /// An aggregate takes its input among those from a place on, and the answer is the place behind it.
 #[tactic(auto, using(crate::proofs::TakingFacts::counted, crate::proofs::TakingFacts::counted_is, crate::proofs::TakingFacts::there, crate::proofs::TakingFacts::taken, crate::proofs::TakingFacts::taken_is))]
+#[inline(always)]
 fn take_next<'r>(
     aggregate: Aggregate,
     total: &mut Value<'r>,
@@ -73,6 +75,7 @@ fn take_next<'r>(
 }
 
 #[tactic(auto, using(crate::proofs::AddingFacts::adding_first, crate::proofs::AddingFacts::adding_fits, crate::proofs::AddingFacts::adding_has, crate::proofs::AddingFacts::adding_on, crate::proofs::AddingFacts::adding_past))]
+#[inline(always)]
 fn gather_each<'r>(
     totals: &mut Vec<Value<'r>>,
     aggregates: &[Aggregate],
@@ -102,6 +105,7 @@ impl<'r> Totals<'r> {
     }
 
     /// Each running value takes the input of its aggregate.
+    #[inline(always)]
     pub(crate) fn gather(
         &mut self,
         aggregates: &[Aggregate],

@@ -11,5 +11,4 @@ returns c = λ same.
     place_is lists_same c.args.entries.now.entries c.args.number c.args.keys.now _
     c.len.ensures.unique
     (sym c.get_index.ensures.entry ∙ ap (option_map deref_pair) c.unwrap.ensures)
-    (sym (c.eq.ensures ∙ (λ i. same_values (c.new.ensures i)
-    ((c.new-2.ensures ∙ c.as_slice.ensures) i))) ∙ same)
+    (sym (c.are_same.ensures ∙ ap (same_values c.args.keys.now) c.as_slice.ensures) ∙ same)
