@@ -1,5 +1,6 @@
 //! The texts of cells, and how wide they are.
-ghost use Rattle.std.specs.Prelude.{◌≡◌, ◌≤◌, ◌+◌, ◌-◌, ◌++◌, ◌∷◌, OnOk, IfOk, false, length, replicate, true};
+ghost use Rattle.std.specs.Prelude.{◌≡◌, ◌≤◌, ◌+◌, ◌-◌, ◌++◌, ◌∷◌, ℕ, List, OnOk, IfOk, false, length, replicate, true};
+ghost use Rattle.std.specs.Prelude.{if◌then◌else◌};
 ghost use Rattle.bean_base.specs.Character.{space};
 ghost use Rattle.std.specs.Int.{is_in_range};
 ghost use Rattle.std.specs.List.{list_all};
@@ -473,6 +474,34 @@ fn push_any_left(
     Ok(())
 }
 
+/// Adds a text or a day at the left of a column that is so wide, and so many spaces behind the column.
+/// Tells whether the cell is one. It is only looked at: so none is made of what is known beforehand.
+#[inline(always)]
+pub fn push_short_left(
+    out: &mut Vec<u8>,
+    cell: &Cell<'_>,
+    width: usize,
+    behind: usize,
+    scratch: &mut Scratch,
+) -> Result<bool, AllocError>
+    ensures { IfOk result (λ is. (display : List ℕ → ℕ) → out.new.items ≡ (if is then
+        out.old.items ++ filled false width (text_width (cell_text display cell.now))
+        (cell_text display cell.now) ++ replicate behind space else out.old.items)) }
+{
+    match cell.shown() {
+        Shown::Text(text) => {
+            push_clean_left(out, text.text(), width, behind, &mut scratch.clean)?;
+            Ok(true)
+        }
+        Shown::Day(day) => {
+            let spaces = spaces_behind(DAY_WIDTH, width, behind)?;
+            scratch.day.push(out, *day, spaces)?;
+            Ok(true)
+        }
+        _ => Ok(false),
+    }
+}
+
 /// Adds a cell at the left of a column that is so wide, and so many spaces behind the column.
 #[inline(always)]
 pub fn push_left(
@@ -487,18 +516,10 @@ pub fn push_left(
         (text_width (cell_text (decimals_of display.now) cell.now))
         (cell_text (decimals_of display.now) cell.now) ++ replicate behind space) }
 {
-    match cell.shown() {
-        Shown::Text(text) => {
-            push_clean_left(out, text.text(), width, behind, &mut scratch.clean)?;
-            Ok(())
-        }
-        Shown::Day(day) => {
-            let spaces = spaces_behind(DAY_WIDTH, width, behind)?;
-            scratch.day.push(out, *day, spaces)?;
-            Ok(())
-        }
-        _ => push_any_left(out, cell, width, behind, scratch, display),
+    if push_short_left(out, cell, width, behind, scratch)? {
+        return Ok(());
     }
+    push_any_left(out, cell, width, behind, scratch, display)
 }
 
 /// Adds a number at the right of a column that is so wide, with the fewest decimals that are exact, and

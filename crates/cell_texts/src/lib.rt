@@ -50,5 +50,7 @@ mod positions;
 mod widening;
 
 pub use cell::Cell;
-pub use cells::{Scratch, cell_width, is_number, push_cell, push_left, push_right};
+pub use cells::{
+    Scratch, cell_width, is_number, push_cell, push_left, push_right, push_short_left,
+};
 pub use widening::wider;

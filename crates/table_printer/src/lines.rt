@@ -1,6 +1,6 @@
 //! The lines of a table: the header line, the rule and the rows.
 ghost use Rattle.std.specs.Prelude.{◌≡◌, ◌<◌, ◌≤◌, ◌++◌, ◌∷◌, [], List, ℕ, Some, length, vec_len, map};
-ghost use Rattle.std.specs.Prelude.{take, drop, slice_get, OnOk, IfOk};
+ghost use Rattle.std.specs.Prelude.{take, drop, false, slice_get, OnOk, IfOk};
 ghost use Rattle.std.specs.List.{flat_map};
 ghost use Rattle.bean_base.specs.Character.{line_feed};
 ghost use Rattle.posting_table.specs.Decimals.{decimals_of};
@@ -12,7 +12,7 @@ ghost use Rattle.table_printer.specs.declared.lines.Placed.{Placed};
 
 use crate::headings::Heading;
 use crate::rows::Rows;
-use cell_texts::{Cell, Scratch, is_number, push_cell, push_left, push_right};
+use cell_texts::{Cell, Scratch, is_number, push_cell, push_left, push_right, push_short_left};
 use number_texts::push_run;
 use posting_table::Display;
 use std::alloc::AllocError;
@@ -109,6 +109,26 @@ fn push_gap(out: &mut Vec<u8>, column: usize) -> Result<(), AllocError>
     Ok(())
 }
 
+/// A cell of any kind at the left of its column, and the gap behind it. The cell that it lends is made in
+/// memory: it stays out of what is done for each text and day.
+#[inline(never)]
+fn push_any_placed<L: Line>(
+    out: &mut Vec<u8>,
+    line: &L,
+    column: usize,
+    width: usize,
+    scratch: &mut Scratch,
+    display: &Display<'_>,
+) -> Result<(), AllocError>
+    requires { column < length (L.cells line.now) }
+    ensures { OnOk result ((placed : Placed) → Some placed ≡ slice_get (L.cells line.now) column
+        → placed.stands_right ≡ false → out.new.items ≡ out.old.items
+        ++ before_gap (padded width (placed_text (decimals_of display.now) placed))) }
+{
+    let placed = line.cell(column);
+    push_left(out, &placed.cell, width, GAP, scratch, display)
+}
+
 /// A cell in its column, and the gap behind it. The cell is made where it is looked at.
 #[inline(always)]
 fn push_placed<L: Line>(
@@ -130,8 +150,10 @@ fn push_placed<L: Line>(
         return Ok(());
     }
     let placed = line.cell(column);
-    push_left(out, &placed.cell, width, GAP, scratch, display)?;
-    Ok(())
+    if push_short_left(out, &placed.cell, width, GAP, scratch)? {
+        return Ok(());
+    }
+    push_any_placed(out, line, column, width, scratch, display)
 }
 
 /// The cells of a line from one column up to another, each in its column and with the gap behind it.
