@@ -381,9 +381,17 @@ pub fn go_on<'r>(
     ensures same { finders.new ≡ finders.old }
 {
     // What most queries ask of a posting before all else needs no look at what it is.
-    if most > 0 && frame.place == 0 && is_true_alone(section.instructions) {
+    if is_true_alone(section.instructions) && frame.place == 0 && most > 0 {
         step_true(alloc, section, loads, finders, frame)?;
         return Ok(1);
     }
-    go_through(alloc, section, loads, finders, frame, most)
+    // The loop reads this in memory. It is written here, so that TRUE alone needs none of it.
+    let loads = Loads {
+        schema: loads.schema,
+        posting: loads.posting,
+        running: loads.running,
+        keys: loads.keys,
+        aggregates: loads.aggregates,
+    };
+    go_through(alloc, section, &loads, finders, frame, most)
 }

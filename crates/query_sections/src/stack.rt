@@ -1,10 +1,37 @@
 //! Stacks of values, whose room is taken once.
 ghost use Rattle.std.specs.Prelude.{◌≡◌, ◌≢◌, ◌<◌, ◌≤◌, [], ◌∷◌, ◌++◌, reverse, length, IfOk, OnOk};
+ghost use Rattle.std.specs.Prelude.{vec_capacity};
 
 use query_answer::AnswerRows;
-use query_values::Value;
+use query_values::{OwnBag, Value};
 use std::alloc::{AllocError, Global};
 use std::marker::Model;
+
+/// Gives an inventory up.
+#[inline(never)]
+fn give_bag_up(bag: OwnBag<'_>) {
+    let _ = bag;
+}
+
+/// Gives a value up. Of all kinds an inventory alone has memory to give back, and is a call.
+#[inline(always)]
+fn give_up(value: Value<'_>) {
+    if let Value::Inventory(bag) = value {
+        give_bag_up(bag);
+    }
+}
+
+/// Gives up all values, from the last on, and keeps the room. This is done for each posting, so that
+/// it is put in place.
+#[inline(always)]
+fn take_all(values: &mut Vec<Value<'_>>)
+    ensures items { values.new.items ≡ [] }
+    ensures room { vec_capacity values.new ≡ vec_capacity values.old }
+{
+    while let Some(value) = values.pop() {
+        give_up(value);
+    }
+}
 
 /// A stack of values. Its value has the top first, and how many values it has room for.
 #[derive(Drop)]
@@ -68,23 +95,12 @@ impl<'r> Stack<'r> {
         rows.push(&mut self.values)
     }
 
-    /// Takes all values away, and keeps the room. A section that left none has nothing to take.
+    /// Takes all values away, and keeps the room.
     #[inline(always)]
     pub fn clear(&mut self)
         ensures values { self.new.values ≡ [] }
         ensures room { self.new.room ≡ self.old.room }
     {
-        if !self.values.is_empty() {
-            self.take_all();
-        }
-    }
-
-    /// Takes all values away where there are some.
-    #[inline(never)]
-    fn take_all(&mut self)
-        ensures values { self.new.values ≡ [] }
-        ensures room { self.new.room ≡ self.old.room }
-    {
-        self.values.clear();
+        take_all(&mut self.values);
     }
 }
