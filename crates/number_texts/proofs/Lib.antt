@@ -7,3 +7,4 @@ pub mod Eights
 pub mod RunFacts
 pub mod OffFacts
 pub mod Among
+pub mod PairFacts

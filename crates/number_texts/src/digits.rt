@@ -19,13 +19,19 @@ fn digit(number: u64) -> u8
     b'0' + (number % 10) as u8
 }
 
-/// The first of two digits.
+/// The digits of each number below 100, one behind the other.
+static PAIRS: [u8; 200] =
+    *b"00010203040506070809101112131415161718192021222324252627282930313233343536373839404142434445464748495051525354555657585960616263646566676869707172737475767778798081828384858687888990919293949596979899";
+
+/// The two digits of a number. They are looked up beside each other, at once.
 #[inline(always)]
-fn first_of_two(number: u64) -> u8
+fn pair(number: u64) -> (u8, u8)
     requires { number < 100 }
-    ensures { result ≡ 48 + number / 10 % 10 }
+    ensures first { result.0 ≡ 48 + number / 10 % 10 }
+    ensures second { result.1 ≡ 48 + number % 10 }
 {
-    b'0' + (number / 10) as u8
+    let at = number as usize * 2;
+    (PAIRS[at], PAIRS[at + 1])
 }
 
 fn unit_of(places: u8) -> u128
@@ -355,9 +361,10 @@ fn put_two_decimals(text: &mut [u8], digits: u64)
     ensures text { drop 37 text.new ≡ behind_point (digits_of 2 digits) ++ drop 40 text.old }
     ensures before { take 37 text.new ≡ take 37 text.old }
 {
+    let (first, second) = pair(digits);
     text[37] = b'.';
-    text[38] = first_of_two(digits);
-    text[39] = digit(digits);
+    text[38] = first;
+    text[39] = second;
 }
 
 /// Puts a point and so many decimals so that they end at the byte 40, and tells where they begin.
@@ -666,23 +673,19 @@ pub fn push_number_right(
 }
 
 /// The text of a day, as `2014-01-31`.
+#[tactic(auto, using(crate::proofs::PairFacts::first_of_last, crate::proofs::PairFacts::second_of_last, crate::proofs::PairFacts::first_of_four, crate::proofs::PairFacts::second_of_four))]
 pub(crate) fn day_bytes(day: Day) -> [u8; 10]
     ensures { result ≡ day_text day }
 {
     let year = day.year().unsigned_abs() as u64;
     let month = day.month() as u64;
     let day = day.day() as u64;
+    let (thousands, hundreds) = pair(year / 100 % 100);
+    let (tens, ones) = pair(year % 100);
+    let (month_tens, month_ones) = pair(month % 100);
+    let (day_tens, day_ones) = pair(day % 100);
     [
-        digit(year / 10 / 10 / 10),
-        digit(year / 10 / 10),
-        digit(year / 10),
-        digit(year),
-        b'-',
-        digit(month / 10),
-        digit(month),
-        b'-',
-        digit(day / 10),
-        digit(day),
+        thousands, hundreds, tens, ones, b'-', month_tens, month_ones, b'-', day_tens, day_ones,
     ]
 }
 
