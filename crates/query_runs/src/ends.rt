@@ -15,7 +15,8 @@ use query_values::comparison::is_true;
 use query_values::{Aggregate, share_keys};
 use std::alloc::{AllocError, Global};
 
-/// Goes to the next group, or to the end.
+/// Goes to the next group, or to the end. Most turns go on at a posting: so it stays a call of its own.
+#[inline(never)]
 fn start_group<'r>(
     alloc: Global,
     input: &Inputs<'r, '_>,
@@ -59,6 +60,7 @@ pub fn start_filter<'r>(
 }
 
 /// Goes to the next posting, or to the groups.
+#[inline(always)]
 pub fn start_row<'r>(
     alloc: Global,
     input: &Inputs<'r, '_>,
@@ -137,6 +139,7 @@ fn next_row<'r>(input: &Inputs<'r, '_>, run: &mut Run<'r>)
 }
 
 /// Goes on behind the end of the row section.
+#[inline(always)]
 pub fn end_row<'r>(
     alloc: Global,
     input: &Inputs<'r, '_>,
