@@ -31,7 +31,8 @@ use Rattle.bean_transactions.specs.declared.stop.LineFault.{LineFault}
 use Rattle.refusals.specs.declared.refusal.Refusal.{Refusal}
 use Rattle.refusals.specs.declared.refusal.Refusal.TheVariants as stop
 use Rattle.bean_transactions.proofs.CompletedFacts.{posts_more}
-use Rattle.bean_transactions.proofs.PlainFacts.{legs_as_written, lined_as_written, lines_as}
+use Rattle.bean_transactions.proofs.LinedFacts.{reverse_twice}
+use Rattle.bean_transactions.proofs.PlainFacts.{as_many, legs_as_written, lined_as_written, lines_as}
 use Rattle.bean_transactions.proofs.PlainFacts.{all_whole, posts_as_written}
 
 -- lists that are equal end alike
@@ -41,11 +42,12 @@ same_last xs ys x y e =
     sym (reverse-append xs (x ∷ [])) ∙ ap reverse e ∙ reverse-append ys (y ∷ []) in
     ap (λ l. get_or l 0 x) turned
 
-as_many : (ps : List Posting) (qs : List Posted) → AreAsWritten ps qs → length qs ≡ length ps
-as_many [] qs are = ap length are
-as_many (p ∷ ps) qs (earlier, q, before, is, more) =
-    let front = as_many ps earlier before in
-    let longer = ap length more ∙ length-append earlier (q ∷ []) in omega (arith, front, longer)
+-- what stands before the last
+pub same_front : {X : Type 0} (xs ys : List X) (x y : X) → xs ++ x ∷ [] ≡ ys ++ y ∷ [] → xs ≡ ys
+same_front xs ys x y e =
+    let turned : x ∷ reverse xs ≡ y ∷ reverse ys =
+    sym (reverse-append xs (x ∷ [])) ∙ ap reverse e ∙ reverse-append ys (y ∷ []) in
+    sym (reverse_twice xs) ∙ ap reverse (ap (drop 1) turned) ∙ reverse_twice ys
 
 -- what is filled in at one leg alone
 all_at : (n : ℕ) (cs : List (List ℕ)) (fills : List Fill) → map gap_of fills ≡ map (λ c. (n, c)) cs

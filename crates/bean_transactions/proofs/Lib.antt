@@ -15,3 +15,4 @@ pub mod LightFacts
 pub mod EachLine
 pub mod EachTrial
 pub mod LastFacts
+pub mod BareFacts

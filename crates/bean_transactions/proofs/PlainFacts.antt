@@ -1,8 +1,8 @@
 -- Transactions that are booked as they are written.
-use Rattle.std.proofs.Common.{◌≡◌, inr, ℕ, ◌+◌, ◌<◌, true, false, List, [], ◌∷◌, ◌++◌, map}
-use Rattle.std.proofs.Common.{length, get_or, take, reverse, Ok, Err, refl, sym, ap, ◌∙◌}
-use Rattle.std.proofs.Common.{subst}
-use Rattle.std.proofs.lemmas.List.{map-append}
+use Rattle.std.proofs.Common.{◌≡◌, inr, ℕ, ◌+◌, true, false, List, [], ◌∷◌, ◌++◌, map}
+use Rattle.std.proofs.Common.{length, reverse, Ok, Err, refl, sym, ap, ◌∙◌}
+use Rattle.std.proofs.Common.{subst, arith, length-append}
+use Rattle.std.proofs.lemmas.List.{map-append, reverse-append}
 use Rattle.std.specs.List.{list_all}
 use Rattle.bean_interp.specs.Balance.{Judges}
 use Rattle.bean_interp.specs.Completion.{Completes}
@@ -27,7 +27,6 @@ use Rattle.bean_transactions.specs.declared.line.Line.{Line}
 use Rattle.bean_transactions.specs.declared.line.Line.TheVariants as line
 use Rattle.bean_holdings.specs.declared.posted.Posted.{Posted}
 use Rattle.refusals.specs.declared.refusal.Refusal.TheVariants as stop
-use Rattle.bean_transactions.proofs.LinedFacts.{before_length, latest}
 
 -- the lines of such postings
 abbrev pub lines_as : List Posted → List Line
@@ -80,16 +79,21 @@ all_whole ps (q ∷ qs) = all_whole ps qs
 
 -- ---- one posting more
 
-pub one_more_written : (ps : List Posting) (i : ℕ) (p : Posting) (q : Posted)
-    (earlier qs : List Posted) → i < length ps → p ≡ get_or ps i p
-    → AreAsWritten (reverse (take i ps)) earlier → IsAsWritten i p q → qs ≡ earlier ++ q ∷ []
-    → AreAsWritten (reverse (take (i + 1) ps)) qs
-one_more_written ps i p q earlier qs h e before is more =
-    subst (λ l. AreAsWritten l qs) (sym (latest ps i p h e)) (
+pub as_many : (ps : List Posting) (qs : List Posted) → AreAsWritten ps qs → length qs ≡ length ps
+as_many [] qs are = ap length are
+as_many (p ∷ ps) qs (earlier, q, before, is, more) =
+    let front = as_many ps earlier before in
+    let longer = ap length more ∙ length-append earlier (q ∷ []) in omega (arith, front, longer)
+
+pub one_more_written : (before : List Posting) (p : Posting) (earlier qs : List Posted) (q : Posted)
+    → AreAsWritten (reverse before) earlier → IsAsWritten (length earlier) p q
+    → qs ≡ earlier ++ q ∷ [] → AreAsWritten (reverse (before ++ p ∷ [])) qs
+one_more_written before p earlier qs q are is more =
+    subst (λ l. AreAsWritten l qs) (sym (reverse-append before (p ∷ []))) (
       earlier,
       q,
-      before,
-      subst (λ n. IsAsWritten n p q) (sym (before_length ps i h)) is,
+      are,
+      subst (λ n. IsAsWritten n p q) (as_many (reverse before) earlier are) is,
       more,
     )
 

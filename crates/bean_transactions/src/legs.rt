@@ -124,24 +124,6 @@ fn is_of_units<'a>(postings: &[WrittenPosting<'a>], posted: &Posted<'a>) -> bool
     }
 }
 
-/// So many light weights are in range, whatever they are.
-const FEW: usize = 1_000_000_000;
-
-/// Whether booked postings are in range since each weighs what its units are.
-pub(crate) fn are_light<'a>(postings: &[WrittenPosting<'a>], posted: &[Posted<'a>]) -> bool
-    ensures { IsTrue result → AreInRange (spec.booked_legs postings.now posted.now) }
-{
-    if posted.len() > FEW {
-        return false;
-    }
-    for one in posted {
-        if !is_of_units(postings, one) {
-            return false;
-        }
-    }
-    true
-}
-
 /// Lays a booked posting on the scales as a leg. It is a function of its own, so that any other makes
 /// no room for one.
 #[inline(never)]

@@ -1,12 +1,13 @@
 //! Transactions that are booked as they are written.
-ghost use Rattle.std.specs.Prelude.{◌≡◌, [], IfOk, false, reverse, true};
+ghost use Rattle.std.specs.Prelude.{◌≡◌, ◌++◌, [], IfOk, IsTrue, List, false, reverse, true};
 ghost use Rattle.std.specs.List.{list_all};
+ghost use Rattle.bean_postings.specs.declared.posting.Posting.{Posting};
 ghost use Rattle.bean_transactions.specs.Lined.{Setting};
 ghost use Rattle.bean_transactions.specs.Plain as spec;
-ghost use Rattle.bean_transactions.specs.Plain.{AreAsWritten, IsAsWritten};
+ghost use Rattle.bean_transactions.specs.Plain.{AreAsWritten, IsAsWritten, IsBare, IsBareFront};
 ghost use Rattle.bean_transactions.specs.Tried.{KnowsBalance, TriesOrLacks, is_outside};
 
-use crate::legs::{are_light, judge};
+use crate::legs::judge;
 use crate::line::Tried;
 use crate::setting::Head;
 use crate::stop::{LineFault, refusal_of};
@@ -58,6 +59,7 @@ fn posted_as_written<'a>(index: usize, posting: &WrittenPosting<'a>) -> Posted<'
 }
 
 /// A list of no postings with room for so many, in the memory of a list that is used no more.
+#[inline(always)]
 pub(crate) fn emptied<'a>(used: Vec<Posted<'a>>, room: usize) -> Result<Vec<Posted<'a>>, AllocError>
     ensures { IfOk result (λ empty. empty.items ≡ []) }
 {
@@ -67,44 +69,65 @@ pub(crate) fn emptied<'a>(used: Vec<Posted<'a>>, room: usize) -> Result<Vec<Post
     Ok(empty)
 }
 
-/// The postings as they are booked, in the memory of a list that is used no more.
+/// Whether a posting is an amount, with nothing beside it but its line.
+fn is_bare(posting: &WrittenPosting<'_>) -> bool
+    ensures { IsTrue result → IsBare posting.now }
+{
+    posting.details().is_none() && matches!(posting.units(), Units::Amount(_))
+}
+
+/// The bare postings at the front, as they are booked, in the memory of a list that is used no more.
+/// Most transactions have no others, so that one pass is all that they take.
 #[inline(always)]
-pub(crate) fn as_written<'a>(
+pub(crate) fn bare_front<'a>(
     spare: Vec<Posted<'a>>,
     postings: &[WrittenPosting<'a>],
 ) -> Result<Vec<Posted<'a>>, AllocError>
-    requires { list_all spec.is_plain postings.now ≡ true }
-    ensures { IfOk result (λ posted. AreAsWritten (reverse postings.now) posted.items) }
+    ensures { IfOk result (λ posted. IsBareFront postings.now posted.items) }
 {
     let mut posted = emptied(spare, postings.len())?;
-    for index in 0..postings.len() {
-        posted.push(posted_as_written(index, &postings[index]))?;
+    for posting in postings {
+        if !is_bare(posting) {
+            return Ok(posted);
+        }
+        let index = posted.len();
+        posted.push(posted_as_written(index, posting))?;
     }
     Ok(posted)
 }
 
-/// Tries a transaction whose postings are all booked as they are written. They are its lines, which
-/// lack nothing, so one weighing tells whether it is too wide and whether it balances. Where it needn't
-/// balance, none is needed for postings that weigh what their units are.
+/// Adds plain postings as they are booked, behind those of the postings that stand before them.
+#[inline(always)]
+pub(crate) fn as_written<'a>(
+    front: Vec<Posted<'a>>,
+    rest: &[WrittenPosting<'a>],
+) -> Result<Vec<Posted<'a>>, AllocError>
+    requires { list_all spec.is_plain rest.now ≡ true }
+    ensures { IfOk result (λ posted. (before : List Posting)
+        → AreAsWritten (reverse before) front.entry.items
+        → AreAsWritten (reverse (before ++ rest.now)) posted.items) }
+{
+    let mut posted = front;
+    for posting in rest {
+        let index = posted.len();
+        posted.push(posted_as_written(index, posting))?;
+    }
+    Ok(posted)
+}
+
+/// Tries a transaction whose postings are booked as they are written. They are its lines, which lack
+/// nothing, so one weighing tells whether it is too wide and whether it balances.
 pub(crate) fn try_plain<'a>(
     scales: &mut Scales<'a>,
-    spare: Vec<Posted<'a>>,
+    posted: Vec<Posted<'a>>,
     head: Head,
     postings: &[WrittenPosting<'a>],
-    weighs: bool,
 ) -> Result<Tried<'a>, Refusal<LineFault>>
-    requires plain { list_all spec.is_plain postings.now ≡ true }
+    requires written { AreAsWritten (reverse postings.now) posted.items }
     requires inside { is_outside postings.now ≡ false }
     ensures tried { (s : Setting) → s.head ≡ head → TriesOrLacks s postings.now result }
     ensures balances { IfOk result (KnowsBalance postings.now) }
 {
-    let posted = as_written(spare, postings)?;
-    if !weighs && are_light(postings, posted.as_slice()) {
-        return Ok(Tried {
-            posted: List::new(posted),
-            balances: None,
-        });
-    }
     match judge(scales, postings, posted.as_slice()) {
         Ok(balances) => Ok(Tried {
             posted: List::new(posted),

@@ -11,11 +11,11 @@ ghost use Rattle.bean_transactions.specs.Tried as spec;
 ghost use Rattle.bean_transactions.specs.Tried.{IsCompleted, KnowsBalance, LacksOrIsWide, TriesOrLacks};
 
 use crate::completed::completed;
-use crate::lacking::{lack_last_amount, try_lacking_last};
+use crate::lacking::{front_of_lacking, try_lacking_last};
 use crate::legs::{judge, legs_of};
 use crate::line::{Line, Tried};
 use crate::lines::line_up;
-use crate::plain::{are_plain, try_plain};
+use crate::plain::{are_plain, as_written, bare_front, try_plain};
 use crate::setting::Head;
 use crate::stop::{LineFault, refusal_of};
 use bean_accounts::Methods;
@@ -86,6 +86,9 @@ fn try_lines<'a>(
     }
 }
 
+/// So many light weights are in range, whatever they are.
+const FEW: usize = 1_000_000_000;
+
 /// The postings that a transaction is booked as, or its first fault. Nothing that is held is
 /// changed. Where all are booked as they are written, and it is weighed, it is known as well whether
 /// they balance. The postings stand in the memory of `spare`, whatever that list has.
@@ -105,19 +108,30 @@ pub fn try_transaction<'a>(
         → TriesOrLacks s postings.now result }
     ensures balances { IfOk result (KnowsBalance postings.now) }
 {
-    if are_outside_profile(postings) {
+    let posted = bare_front(spare, postings)?;
+    let (_, rest) = postings.split_at(posted.len());
+    // Bare ones weigh what their units are: where they are few, they aren't weighed for their width.
+    if !weighs && posted.len() == postings.len() && posted.len() <= FEW {
+        return Ok(Tried {
+            posted: List::new(posted),
+            balances: None,
+        });
+    }
+    if are_outside_profile(rest) {
         return Err(Refusal::Refused(LineFault {
             kind: FaultKind::OutsideProfile,
             line: head.line,
         }));
     }
-    if are_plain(postings) {
-        return try_plain(scales, spare, head, postings, weighs);
+    if are_plain(rest) {
+        let posted = as_written(posted, rest)?;
+        return try_plain(scales, posted, head, postings);
     }
-    if lack_last_amount(postings) {
-        return try_lacking_last(alloc, scales, spare, head, postings);
+    if let Some(front) = front_of_lacking(rest) {
+        let posted = as_written(posted, front)?;
+        return try_lacking_last(alloc, scales, posted, head, postings);
     }
-    try_lines(alloc, holdings, methods, scales, spare, head, postings)
+    try_lines(alloc, holdings, methods, scales, posted, head, postings)
 }
 
 /// Whether a transaction balances by the postings that it is booked as.

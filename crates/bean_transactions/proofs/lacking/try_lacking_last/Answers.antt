@@ -1,4 +1,4 @@
-use Rattle.std.proofs.Common.{◌≡◌, Bool, true, List, None, Option, Some, Err, ap, length, subst, sym, ◌++◌, ◌∙◌}
+use Rattle.std.proofs.Common.{◌≡◌, Bool, true, List, None, Option, Some, Err, ap, length, reverse, subst, sym, ◌++◌, ◌∙◌}
 use Rattle.std.proofs.lemmas.List.{length-map}
 use Rattle.std.specs.Prelude.{IfSome}
 use Rattle.bean_interp.specs.Balance.{is_balanced}
@@ -10,9 +10,10 @@ use Rattle.bean_interp.specs.Scales.{AreSet}
 use Rattle.bean_interp.proofs.LastFacts.{lacking_last, stopped_before_last}
 use Rattle.bean_postings.specs.declared.posting.Posting.{Posting}
 use Rattle.bean_transactions.specs.Outcome.{StopsAt}
+use Rattle.bean_transactions.specs.Plain.{AreAsWritten}
 use Rattle.bean_transactions.specs.Tried.{IsKept, LacksOrIsWide, booked_leg, booked_legs, filled_at}
 use Rattle.bean_transactions.specs.declared.setting.Head.{Head}
-use Rattle.bean_transactions.proofs.LastFacts.{balanced_lacking, kept_lacking, many, same_last}
+use Rattle.bean_transactions.proofs.LastFacts.{balanced_lacking, kept_lacking, many, same_front, same_last}
 use Rattle.bean_transactions.proofs.LastFacts.{stopped_lacking}
 use Rattle.bean_transactions.proofs.PlainFacts.{all_whole}
 use Rattle.bean_transactions.proofs.lacking.try_lacking_last.Goals as goal
@@ -20,13 +21,17 @@ use Rattle.bean_transactions.proofs.lacking.try_lacking_last.Goals as goal
 pub returns-in-Err-clause-tried : goal.returns-in-Err-clause-tried
 returns-in-Err-clause-tried c = λ s is.
     let ps = c.args.postings.now in
-    let front = c.in-Some.front.now in
+    let front = c.in-Some.before.now in
     let last : Posting = c.in-Some.last.now in
-    let qs = c.in_ok-posted.posted.items in
+    let qs = c.args.front.items in
     let parts = c.in-Some.ensures.cases.0 in
+    let alike = sym parts ∙ c.requires.lacking.are in
+    let are =
+    subst (λ l. AreAsWritten (reverse l) qs)
+    (sym (same_front front c.requires.lacking.front last c.requires.lacking.last alike))
+    c.requires.lacking.written in
     let lacks = ap (λ (p : Posting). p.units)
-    (same_last front c.requires.lacking.front last c.requires.lacking.last
-    (sym parts ∙ c.requires.lacking.are)) ∙ c.requires.lacking.lacks in
+    (same_last front c.requires.lacking.front last c.requires.lacking.last alike) ∙ c.requires.lacking.lacks in
     let all = lacking_last (booked_legs ps qs) in
     let stops =
     c.refusal_of.ensures all
@@ -35,7 +40,7 @@ returns-in-Err-clause-tried c = λ s is.
     (λ same.
     subst (λ l. ¬ AreInRange (booked_legs ps l)) c.as_slice.ensures.value
     (c.in-Err.ensures.wide same)))) in
-    stopped_lacking ps front last qs parts lacks c.in_ok-posted.ensures s c.refusal_of.result
+    stopped_lacking ps front last qs parts lacks are s c.refusal_of.result
     c.requires.inside
     (subst (λ n. StopsAt (LacksOrIsWide n all) c.refusal_of.result)
     (sym (ap (λ (h : Head). h.line) is)) stops)
@@ -43,14 +48,17 @@ returns-in-Err-clause-tried c = λ s is.
 pub returns-in-Ok-clause-tried : goal.returns-in-Ok-clause-tried
 returns-in-Ok-clause-tried c = λ s is.
     let ps = c.args.postings.now in
-    let front = c.in-Some.front.now in
+    let front = c.in-Some.before.now in
     let last : Posting = c.in-Some.last.now in
-    let qs = c.in_ok-posted.posted.items in
-    let are = c.in_ok-posted.ensures in
+    let qs = c.args.front.items in
     let parts = c.in-Some.ensures.cases.0 in
+    let alike = sym parts ∙ c.requires.lacking.are in
+    let are =
+    subst (λ l. AreAsWritten (reverse l) qs)
+    (sym (same_front front c.requires.lacking.front last c.requires.lacking.last alike))
+    c.requires.lacking.written in
     let lacks = ap (λ (p : Posting). p.units)
-    (same_last front c.requires.lacking.front last c.requires.lacking.last
-    (sym parts ∙ c.requires.lacking.are)) ∙ c.requires.lacking.lacks in
+    (same_last front c.requires.lacking.front last c.requires.lacking.last alike) ∙ c.requires.lacking.lacks in
     let set =
     subst (λ l. AreSet c.set.new.scales (booked_legs ps l)) c.as_slice.ensures.value
     c.in_default-set.ensures.set in
@@ -68,14 +76,17 @@ returns-in-Ok-clause-tried c = λ s is.
 pub returns-clause-tried : goal.returns-clause-tried
 returns-clause-tried c = λ s is.
     let ps = c.args.postings.now in
-    let front = c.in-Some.front.now in
+    let front = c.in-Some.before.now in
     let last : Posting = c.in-Some.last.now in
-    let qs = c.in_ok-posted.posted.items in
-    let are = c.in_ok-posted.ensures in
+    let qs = c.args.front.items in
     let parts = c.in-Some.ensures.cases.0 in
+    let alike = sym parts ∙ c.requires.lacking.are in
+    let are =
+    subst (λ l. AreAsWritten (reverse l) qs)
+    (sym (same_front front c.requires.lacking.front last c.requires.lacking.last alike))
+    c.requires.lacking.written in
     let lacks = ap (λ (p : Posting). p.units)
-    (same_last front c.requires.lacking.front last c.requires.lacking.last
-    (sym parts ∙ c.requires.lacking.are)) ∙ c.requires.lacking.lacks in
+    (same_last front c.requires.lacking.front last c.requires.lacking.last alike) ∙ c.requires.lacking.lacks in
     let all = lacking_last (booked_legs ps qs) in
     let set =
     subst (λ l. AreSet c.set.new.scales (booked_legs ps l)) c.as_slice.ensures.value
@@ -97,14 +108,17 @@ known (Some b) P legs is even = is.0 ∙ sym (even is.1)
 pub returns-in-Ok-clause-balances : goal.returns-in-Ok-clause-balances
 returns-in-Ok-clause-balances c =
     let ps = c.args.postings.now in
-    let front = c.in-Some.front.now in
+    let front = c.in-Some.before.now in
     let last : Posting = c.in-Some.last.now in
-    let qs = c.in_ok-posted.posted.items in
-    let are = c.in_ok-posted.ensures in
+    let qs = c.args.front.items in
     let parts = c.in-Some.ensures.cases.0 in
+    let alike = sym parts ∙ c.requires.lacking.are in
+    let are =
+    subst (λ l. AreAsWritten (reverse l) qs)
+    (sym (same_front front c.requires.lacking.front last c.requires.lacking.last alike))
+    c.requires.lacking.written in
     let lacks = ap (λ (p : Posting). p.units)
-    (same_last front c.requires.lacking.front last c.requires.lacking.last
-    (sym parts ∙ c.requires.lacking.are)) ∙ c.requires.lacking.lacks in
+    (same_last front c.requires.lacking.front last c.requires.lacking.last alike) ∙ c.requires.lacking.lacks in
     let set =
     subst (λ l. AreSet c.set.new.scales (booked_legs ps l)) c.as_slice.ensures.value
     c.in_default-set.ensures.set in
