@@ -39,8 +39,10 @@ struct Part<T> {
     end: usize,
 }
 
-/// Written out, so that what gives one up needs to know nothing of what is in it.
+/// Written out, so that what gives one up needs to know nothing of what is in it. It is put in place,
+/// since each transaction gives up two.
 impl<T: Drop> Drop for Stretch<T> {
+    #[inline(always)]
     fn drop(self) {
         let Stretch { items: _ } = self;
     }
