@@ -1,7 +1,7 @@
 //! Groups by their keys.
 ghost use Rattle.std.specs.Prelude.{◌≡◌, ◌≢◌, ◌<◌, [], IfOk, None, OnOk, Some, length, slice_get, true};
 ghost use Rattle.std.specs.Map.{lookup};
-ghost use Rattle.indexmap.specs.IndexMap.{index_of_by};
+ghost use Rattle.indexmap.specs.IndexMap.{index_of_by, insert_entry};
 ghost use Rattle.plain_machine.specs.Gathering.{put, running_values};
 ghost use Rattle.query_rows.specs.Same.{same_values};
 ghost use Rattle.query_values.specs.Equality.{same};
@@ -148,6 +148,19 @@ fn number_of<'r>(
     sought_for(entries, keys, hints)
 }
 
+/// Writes what was gathered under keys: behind all others, where these keys are new.
+fn put_behind<'r>(
+    entries: &mut IndexMap<ValueKey<'r>, Totals<'r>>,
+    key: ValueKey<'r>,
+    totals: Totals<'r>,
+) -> Result<(), AllocError>
+    ensures { OnOk result (entries.new.entries
+        ≡ insert_entry same_values entries.old.entries key.entry totals.entry) }
+{
+    entries.insert(key, totals)?;
+    Ok(())
+}
+
 impl<'r> Groups<'r> {
     /// No group. Takes no memory.
     pub fn new(alloc: Global) -> Groups<'r>
@@ -201,8 +214,7 @@ impl<'r> Groups<'r> {
         let mut totals = Totals::start(self.alloc, aggregates)?;
         totals.gather(aggregates, inputs)?;
         let key = ValueKey::new(copies(self.alloc, keys)?);
-        self.entries.insert(key, totals)?;
-        Ok(())
+        put_behind(&mut self.entries, key, totals)
     }
 
     /// A group, by its number in order of first appearance.

@@ -1,5 +1,6 @@
 use Rattle.std.proofs.Common.{◌≡◌, ◌≢◌, None, Some, ap, sym, subst, ◌∙◌, unwrap_or}
 use Rattle.std.specs.Map.{lookup}
+use Rattle.indexmap.proofs.MapLemmas.{OnOk-map}
 use Rattle.indexmap.specs.IndexMap.{insert_entry}
 use Rattle.plain_machine.specs.Gathering.{put, running_values}
 use Rattle.query_rows.specs.Same.{same_values}
@@ -22,13 +23,13 @@ returns c =
     let keep = running_values c.args.aggregates.now in
     let es = c.self.inside.entries.entries in
     let sought = c.args.keys.now in
-    let new = c.insert.new.self.entries in
+    let new = c.put_behind.new.entries.entries in
     let absent = ap (lookup (same_values sought)) c.self.view_is ∙ c.requires.absent in
     let key : c.new-key.result ≡ sought = c.new-key.ensures ∙ c.in_ok-copies.ensures in
-    let done : put keep es sought c.args.inputs.now ≡ Some new =
-    is_put keep sought c.args.inputs.now es new c.in_ok-totals.totals c.gather.new.self
+    OnOk-map c.put_behind.result _ _ (λ behind.
+    subst (λ gs. put keep gs sought c.args.inputs.now ≡ Some new) c.self.view_is
+    (is_put keep sought c.args.inputs.now es new c.in_ok-totals.totals c.gather.new.self
     (ap (λ o. unwrap_or o keep.start) absent ∙ sym c.in_ok-totals.ensures)
     c.in_ok-gather.ensures
-    (c.in_ok-insert.ensures.entries
-    ∙ ap (λ k. insert_entry same_values es k c.gather.new.self) key) in
-    subst (λ gs. put keep gs sought c.args.inputs.now ≡ Some new) c.self.view_is done
+    (behind ∙ ap (λ k. insert_entry same_values es k c.gather.new.self) key)))
+    c.put_behind.ensures
