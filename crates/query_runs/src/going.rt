@@ -1,5 +1,5 @@
 //! Runs that go on, instruction by instruction.
-ghost use Rattle.std.specs.Prelude.{◌≡◌, ◌≢◌, true, ◌<◌, ◌≤◌, IfOk, length, map};
+ghost use Rattle.std.specs.Prelude.{◌≡◌, ◌≢◌, true, false, ◌<◌, ◌≤◌, IfOk, length, map};
 ghost use Rattle.std.specs.Option.{option_copied};
 ghost use Rattle.plain_machine.specs.PlainMachine.{balance_in};
 ghost use Rattle.plain_machine.specs.Pool.{pattern_in};
@@ -59,8 +59,8 @@ fn at_posting<'r>(
     };
     let made = sections::go_on(
         alloc,
-        section,
         &loads,
+        section,
         &mut run.finders,
         &mut run.frame,
         most,
@@ -143,8 +143,8 @@ pub fn row_on<'r>(
     };
     let made = sections::go_on(
         alloc,
-        &section,
         &loads,
+        &section,
         &mut run.finders,
         &mut run.frame,
         most,
@@ -187,8 +187,8 @@ pub fn last_on<'r>(
     };
     let made = sections::go_on(
         alloc,
-        &section,
         &loads,
+        &section,
         &mut run.finders,
         &mut run.frame,
         most,
@@ -233,6 +233,17 @@ pub fn is_done(run: &Run<'_>) -> bool
     matches!(run.stage, Stage::Done)
 }
 
+/// Whether a run goes on that made so many instructions: until they are as many as it may make, or
+/// it has come to its end.
+#[inline(always)]
+fn goes_on(run: &Run<'_>, made: u64, most: u64) -> bool
+    ensures few { result ≡ true → made < most }
+    ensures inside { result ≡ true → is_at_end run.now.stage ≡ false }
+    ensures ends { result ≡ false → made < most → is_at_end run.now.stage ≡ true }
+{
+    made < most && !is_done(run)
+}
+
 /// Goes on by so many instructions, at most to the end, and tells how many they were.
 pub fn go_on<'r>(
     alloc: Global,
@@ -251,7 +262,7 @@ pub fn go_on<'r>(
     ensures room { run.new.frame.stack.room ≡ run.old.frame.stack.room }
 {
     let mut made = 0;
-    while made < most && !is_done(run) {
+    while goes_on(run, made, most) {
         made += stage_on(alloc, input, run, most - made)?;
     }
     Ok(made)

@@ -4,7 +4,7 @@
 //! let mut finders = Finders::new(alloc, &patterns)?;      // one for each pattern of the pool
 //! let mut frame = Frame::new(alloc, depth)?;              // room for the whole stack, once
 //! let loads = Loads { schema, posting: Some(ledger.row(number)), .. };
-//! let made = go_on(alloc, &section, &loads, &mut finders, &mut frame, 1000)?;
+//! let made = go_on(alloc, &loads, &section, &mut finders, &mut frame, 1000)?;
 //! if frame.place == section.instructions.len() { .. }     // frame.stack has what the section left
 //! ```
 //!

@@ -81,7 +81,7 @@ fn any_text<'r>(posting: &'r HeldRow<'_>, key: &str) -> Value<'r>
     }
 }
 
-impl<'r, 'a> Loads<'r, '_, 'a> {
+impl<'r, 'a> Loads<'r, 'a, '_> {
     /// The posting, which is there.
     #[inline(always)]
     fn posting(&self) -> &'r HeldRow<'a>
@@ -138,8 +138,8 @@ fn value_at<'r>(values: &[Value<'r>], place: u8) -> Result<Value<'r>, AllocError
 /// value that takes no memory goes through no `Result` there.
 #[inline(always)]
 fn put<'r>(
-    pool: &[Constant<'r>],
     loads: &Loads<'r, '_, '_>,
+    pool: &[Constant<'r>],
     op: Push,
     value: Value<'r>,
     stack: &mut Stack<'r>,
@@ -157,8 +157,8 @@ fn put<'r>(
 /// Puts the running inventory on the stack.
 #[inline(never)]
 fn load_balance<'r>(
-    pool: &[Constant<'r>],
     loads: &Loads<'r, '_, '_>,
+    pool: &[Constant<'r>],
     number: u8,
     stack: &mut Stack<'r>,
 ) -> Result<(), AllocError>
@@ -172,15 +172,15 @@ fn load_balance<'r>(
     ensures room { stack.new.room ≡ stack.old.room }
 {
     let running = loads.balance()?;
-    put(pool, loads, Push::LoadColumn(number), running, stack);
+    put(loads, pool, Push::LoadColumn(number), running, stack);
     Ok(())
 }
 
 /// Puts what stands in a column of the posting on the stack.
 #[inline(never)]
 fn load_cell<'r>(
-    pool: &[Constant<'r>],
     loads: &Loads<'r, '_, '_>,
+    pool: &[Constant<'r>],
     number: u8,
     column: Column,
     stack: &mut Stack<'r>,
@@ -195,14 +195,14 @@ fn load_cell<'r>(
     ensures room { stack.new.room ≡ stack.old.room }
 {
     let cell = loads.cell_of_row(column);
-    put(pool, loads, Push::LoadColumn(number), cell, stack);
+    put(loads, pool, Push::LoadColumn(number), cell, stack);
 }
 
 /// Puts what stands in a column on the stack; in that of the balance the running inventory.
 #[inline(always)]
 fn load_column<'r>(
-    pool: &[Constant<'r>],
     loads: &Loads<'r, '_, '_>,
+    pool: &[Constant<'r>],
     number: u8,
     stack: &mut Stack<'r>,
 ) -> Result<(), AllocError>
@@ -219,22 +219,22 @@ fn load_column<'r>(
         // once. All else is a call, so that no memory is cleared for what it would hand over.
         Column::Account => {
             let cell = loads.cell_of_row(Column::Account);
-            put(pool, loads, Push::LoadColumn(number), cell, stack);
+            put(loads, pool, Push::LoadColumn(number), cell, stack);
         }
         Column::Date => {
             let cell = loads.cell_of_row(Column::Date);
-            put(pool, loads, Push::LoadColumn(number), cell, stack);
+            put(loads, pool, Push::LoadColumn(number), cell, stack);
         }
         Column::Number => {
             let cell = loads.cell_of_row(Column::Number);
-            put(pool, loads, Push::LoadColumn(number), cell, stack);
+            put(loads, pool, Push::LoadColumn(number), cell, stack);
         }
         Column::Position => {
             let cell = loads.cell_of_row(Column::Position);
-            put(pool, loads, Push::LoadColumn(number), cell, stack);
+            put(loads, pool, Push::LoadColumn(number), cell, stack);
         }
-        Column::Balance => return load_balance(pool, loads, number, stack),
-        column => load_cell(pool, loads, number, column, stack),
+        Column::Balance => return load_balance(loads, pool, number, stack),
+        column => load_cell(loads, pool, number, column, stack),
     }
     Ok(())
 }
@@ -242,8 +242,8 @@ fn load_column<'r>(
 /// What few instructions load.
 #[inline(always)]
 fn other_value<'r>(
-    pool: &[Constant<'r>],
     loads: &Loads<'r, '_, '_>,
+    pool: &[Constant<'r>],
     op: Push,
 ) -> Result<Value<'r>, AllocError>
     requires there { loaded pool.now (loads_of loads.now) op ≢ None }
@@ -263,8 +263,8 @@ fn other_value<'r>(
 /// Puts on the stack what few instructions load.
 #[inline(never)]
 fn load_other<'r>(
-    pool: &[Constant<'r>],
     loads: &Loads<'r, '_, '_>,
+    pool: &[Constant<'r>],
     op: Push,
     stack: &mut Stack<'r>,
 ) -> Result<(), AllocError>
@@ -276,16 +276,16 @@ fn load_other<'r>(
         stack.old.values ≡ Some stack.new.values) }
     ensures room { stack.new.room ≡ stack.old.room }
 {
-    let value = other_value(pool, loads, op)?;
-    put(pool, loads, op, value, stack);
+    let value = other_value(loads, pool, op)?;
+    put(loads, pool, op, value, stack);
     Ok(())
 }
 
 /// Puts what an instruction loads on the stack.
 #[inline(always)]
 pub fn load<'r>(
-    pool: &[Constant<'r>],
     loads: &Loads<'r, '_, '_>,
+    pool: &[Constant<'r>],
     op: Push,
     stack: &mut Stack<'r>,
 ) -> Result<(), AllocError>
@@ -298,19 +298,19 @@ pub fn load<'r>(
 {
     match op {
         Push::True => {
-            put(pool, loads, op, Value::Truth(true), stack);
+            put(loads, pool, op, Value::Truth(true), stack);
             Ok(())
         }
         Push::False => {
-            put(pool, loads, op, Value::Truth(false), stack);
+            put(loads, pool, op, Value::Truth(false), stack);
             Ok(())
         }
         Push::Const(place) => {
             let value = constant(&pool[place as usize]);
-            put(pool, loads, op, value, stack);
+            put(loads, pool, op, value, stack);
             Ok(())
         }
-        Push::LoadColumn(number) => load_column(pool, loads, number, stack),
-        other => load_other(pool, loads, other, stack),
+        Push::LoadColumn(number) => load_column(loads, pool, number, stack),
+        other => load_other(loads, pool, other, stack),
     }
 }

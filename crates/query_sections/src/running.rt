@@ -39,8 +39,8 @@ pub struct Section<'r, 's> {
 /// Puts what an instruction loads on the stack.
 #[inline(always)]
 fn push<'r>(
-    pool: &[Constant<'r>],
     loads: &Loads<'r, '_, '_>,
+    pool: &[Constant<'r>],
     op: Push,
     stack: &mut Stack<'r>,
 ) -> Result<(), AllocError>
@@ -50,7 +50,7 @@ fn push<'r>(
         stack.old.values ≡ Some stack.new.values) }
     ensures room { stack.new.room ≡ stack.old.room }
 {
-    load(pool, loads, op, stack)
+    load(loads, pool, op, stack)
 }
 
 /// Puts in place of a text whether it has a pattern.
@@ -200,8 +200,8 @@ fn behind_test(goes_on: bool, place: usize, to: u16) -> usize
 #[inline(always)]
 fn execute<'r>(
     alloc: Global,
-    pool: &[Constant<'r>],
     loads: &Loads<'r, '_, '_>,
+    pool: &[Constant<'r>],
     finders: &mut Finders<'r>,
     instruction: Instruction,
     frame: &mut Frame<'r>,
@@ -220,7 +220,7 @@ fn execute<'r>(
 {
     match instruction {
         Instruction::Push(op) => {
-            push(pool, loads, op, &mut frame.stack)?;
+            push(loads, pool, op, &mut frame.stack)?;
             frame.place += 1;
             Ok(())
         }
@@ -260,8 +260,8 @@ fn execute<'r>(
 #[inline(always)]
 fn step<'r>(
     alloc: Global,
-    section: &Section<'r, '_>,
     loads: &Loads<'r, '_, '_>,
+    section: &Section<'r, '_>,
     finders: &mut Finders<'r>,
     frame: &mut Frame<'r>,
 ) -> Result<(), AllocError>
@@ -276,7 +276,7 @@ fn step<'r>(
     ensures same { finders.new ≡ finders.old }
 {
     let instruction = section.instructions[frame.place];
-    execute(alloc, section.pool, loads, finders, instruction, frame)
+    execute(alloc, loads, section.pool, finders, instruction, frame)
 }
 
 /// Whether an instruction is TRUE.
@@ -299,8 +299,8 @@ fn is_true_alone(instructions: &[Instruction]) -> bool
 #[inline(always)]
 fn step_true<'r>(
     alloc: Global,
-    section: &Section<'r, '_>,
     loads: &Loads<'r, '_, '_>,
+    section: &Section<'r, '_>,
     finders: &mut Finders<'r>,
     frame: &mut Frame<'r>,
 ) -> Result<(), AllocError>
@@ -317,7 +317,7 @@ fn step_true<'r>(
     ensures same { finders.new ≡ finders.old }
 {
     let instruction = Instruction::Push(Push::True);
-    execute(alloc, section.pool, loads, finders, instruction, frame)
+    execute(alloc, loads, section.pool, finders, instruction, frame)
 }
 
 /// Goes on by so many instructions, at most to the end of the section, and tells how many they
@@ -325,8 +325,8 @@ fn step_true<'r>(
 #[inline(never)]
 fn go_through<'r>(
     alloc: Global,
-    section: &Section<'r, '_>,
     loads: &Loads<'r, '_, '_>,
+    section: &Section<'r, '_>,
     finders: &mut Finders<'r>,
     frame: &mut Frame<'r>,
     most: u64,
@@ -348,7 +348,7 @@ fn go_through<'r>(
 {
     let mut made = 0;
     while made < most && frame.place < section.instructions.len() {
-        step(alloc, section, loads, finders, frame)?;
+        step(alloc, loads, section, finders, frame)?;
         made += 1;
     }
     Ok(made)
@@ -359,8 +359,8 @@ fn go_through<'r>(
 #[inline(always)]
 pub fn go_on<'r>(
     alloc: Global,
-    section: &Section<'r, '_>,
     loads: &Loads<'r, '_, '_>,
+    section: &Section<'r, '_>,
     finders: &mut Finders<'r>,
     frame: &mut Frame<'r>,
     most: u64,
@@ -382,7 +382,7 @@ pub fn go_on<'r>(
 {
     // What most queries ask of a posting before all else needs no look at what it is.
     if is_true_alone(section.instructions) && frame.place == 0 && most > 0 {
-        step_true(alloc, section, loads, finders, frame)?;
+        step_true(alloc, loads, section, finders, frame)?;
         return Ok(1);
     }
     // The loop reads this in memory. It is written here, so that TRUE alone needs none of it.
@@ -393,5 +393,5 @@ pub fn go_on<'r>(
         keys: loads.keys,
         aggregates: loads.aggregates,
     };
-    go_through(alloc, section, &loads, finders, frame, most)
+    go_through(alloc, &loads, section, finders, frame, most)
 }
