@@ -21,6 +21,12 @@ abbrev pub is_number : Value → Bool
 is_number (Number p n) = true
 is_number _ = false
 
+-- what most cells at the left of their columns have
+abbrev pub is_text_or_day : Value → Bool
+is_text_or_day (Text t) = true
+is_text_or_day (Day d) = true
+is_text_or_day _ = false
+
 -- a control character becomes a space
 abbrev pub shown_character : ℕ → ℕ
 shown_character c = if is_control c then space else c

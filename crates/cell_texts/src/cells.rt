@@ -477,14 +477,15 @@ fn push_any_left(
 /// Adds a text or a day at the left of a column that is so wide, and so many spaces behind the column.
 /// Tells whether the cell is one. It is only looked at: so none is made of what is known beforehand.
 #[inline(always)]
-pub fn push_short_left(
+pub fn push_text_or_day(
     out: &mut Vec<u8>,
     cell: &Cell<'_>,
     width: usize,
     behind: usize,
     scratch: &mut Scratch,
 ) -> Result<bool, AllocError>
-    ensures { IfOk result (λ is. (display : List ℕ → ℕ) → out.new.items ≡ (if is then
+    ensures which { IfOk result (λ is. is ≡ spec.is_text_or_day cell.now) }
+    ensures added { IfOk result (λ is. (display : List ℕ → ℕ) → out.new.items ≡ (if is then
         out.old.items ++ filled false width (text_width (cell_text display cell.now))
         (cell_text display cell.now) ++ replicate behind space else out.old.items)) }
 {
@@ -516,7 +517,7 @@ pub fn push_left(
         (text_width (cell_text (decimals_of display.now) cell.now))
         (cell_text (decimals_of display.now) cell.now) ++ replicate behind space) }
 {
-    if push_short_left(out, cell, width, behind, scratch)? {
+    if push_text_or_day(out, cell, width, behind, scratch)? {
         return Ok(());
     }
     push_any_left(out, cell, width, behind, scratch, display)

@@ -51,6 +51,6 @@ mod widening;
 
 pub use cell::Cell;
 pub use cells::{
-    Scratch, cell_width, is_number, push_cell, push_left, push_right, push_short_left,
+    Scratch, cell_width, is_number, push_cell, push_left, push_right, push_text_or_day,
 };
 pub use widening::wider;

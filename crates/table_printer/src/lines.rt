@@ -12,7 +12,7 @@ ghost use Rattle.table_printer.specs.declared.lines.Placed.{Placed};
 
 use crate::headings::Heading;
 use crate::rows::Rows;
-use cell_texts::{Cell, Scratch, is_number, push_cell, push_left, push_right, push_short_left};
+use cell_texts::{Cell, Scratch, is_number, push_cell, push_left, push_right, push_text_or_day};
 use number_texts::push_run;
 use posting_table::Display;
 use std::alloc::AllocError;
@@ -150,7 +150,7 @@ fn push_placed<L: Line>(
         return Ok(());
     }
     let placed = line.cell(column);
-    if push_short_left(out, &placed.cell, width, GAP, scratch)? {
+    if push_text_or_day(out, &placed.cell, width, GAP, scratch)? {
         return Ok(());
     }
     push_any_placed(out, line, column, width, scratch, display)

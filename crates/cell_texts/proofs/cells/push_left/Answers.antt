@@ -9,6 +9,6 @@ returns-then-branch c =
     let display = decimals_of c.args.display.now in
     let out = c.args.out.now.items in
     let text = cell_text display c.args.cell.now in
-    c.in_ok-push_short_left.ensures display
+    c.in_ok-push_text_or_day.ensures.added display
     ∙ ap (λ b. cond b ((out ++ filled false c.args.width (text_width text) text)
     ++ replicate c.args.behind 32) out) c.if-branch.true

@@ -5,10 +5,10 @@ use Rattle.cell_texts.specs.CellText.{cell_text, clean_text}
 use Rattle.cell_texts.specs.Width.{filled, text_width}
 use Rattle.cell_texts.proofs.Filled.{filled_left}
 use Rattle.cell_texts.proofs.Written.{day_width}
-use Rattle.cell_texts.proofs.cells.push_short_left.Goals as goal
+use Rattle.cell_texts.proofs.cells.push_text_or_day.Goals as goal
 
-pub returns-in_ok-push_clean_left-in-Text : goal.returns-in_ok-push_clean_left-in-Text
-returns-in_ok-push_clean_left-in-Text c = λ display.
+pub returns-in_ok-push_clean_left-in-Text-clause-added : goal.returns-in_ok-push_clean_left-in-Text-clause-added
+returns-in_ok-push_clean_left-in-Text-clause-added c = λ display.
     let out = c.args.out.now.items in
     let text = clean_text c.in-Text.text in
     c.in_ok-push_clean_left-in-Text.ensures
@@ -19,8 +19,8 @@ returns-in_ok-push_clean_left-in-Text c = λ display.
     (cell_text display cell)) ++ replicate c.args.behind 32)
     (sym (ap value_of c.in-Text.is) ∙ c.shown.ensures)
 
-pub returns-in_ok-push-in-Day : goal.returns-in_ok-push-in-Day
-returns-in_ok-push-in-Day c = λ display.
+pub returns-in_ok-push-in-Day-clause-added : goal.returns-in_ok-push-in-Day-clause-added
+returns-in_ok-push-in-Day-clause-added c = λ display.
     let out = c.args.out.now.items in
     let day = c.in-Day.day in
     let text = day_text day in
