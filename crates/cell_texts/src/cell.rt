@@ -38,9 +38,15 @@ pub enum Shown<'r> {
 /// What stands in a cell: a text, a day or a position, made when the cell is asked for, or any value
 /// lent from where it is kept. A value may own an inventory; a cell lends it, so that nothing is
 /// copied. Contracts see the value itself.
-#[derive(Drop)]
 pub struct Cell<'r> {
     shown: Shown<'r>,
+}
+
+/// Written out, so that what gives one up needs to know nothing of what is in it.
+impl Drop for Cell<'_> {
+    fn drop(self) {
+        let Cell { shown: _ } = self;
+    }
 }
 
 impl<'r> Model for Cell<'r> {

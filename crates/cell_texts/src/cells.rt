@@ -9,7 +9,7 @@ ghost use Rattle.posting_table.specs.Decimals.{decimals_of};
 ghost use Rattle.number_texts.specs.Digits.{number_text};
 ghost use Rattle.cell_texts.specs.Width.{text_width};
 ghost use Rattle.cell_texts.specs.Width.{filled};
-ghost use Rattle.cell_texts.specs.CellText.{between_entries, between_members, cell_text, clean_text, set_text, units_text};
+ghost use Rattle.cell_texts.specs.CellText.{between_entries, cell_text, clean_text, set_text, units_text};
 ghost use Rattle.cell_texts.specs.CellText as spec;
 ghost use Rattle.theory.specs.Joined.{gap_before};
 
@@ -106,13 +106,13 @@ fn make_clean(clean: &mut String, text: &str) -> Result<(), AllocError>
     add_clean(clean, text)
 }
 
-/// Adds what stands before a member of a set.
-fn add_separator(clean: &mut String, member: usize) -> Result<(), AllocError>
+/// Adds what stands between two items before the one of that number, unless it is the first.
+pub(crate) fn add_between(clean: &mut String, between: &str, item: usize) -> Result<(), AllocError>
     ensures { OnOk result (string_bytes clean.new
-        ≡ string_bytes clean.old ++ gap_before between_members member) }
+        ≡ string_bytes clean.old ++ gap_before between.now item) }
 {
-    if member > 0 {
-        clean.push(',')?;
+    if item > 0 {
+        clean.push_str(between)?;
     }
     Ok(())
 }
@@ -123,7 +123,7 @@ fn make_set(clean: &mut String, set: &TextSet<'_>) -> Result<(), AllocError>
 {
     clean.clear();
     for (i, text) in set.as_slice().iter().enumerate() {
-        add_separator(clean, i)?;
+        add_between(clean, ",", i)?;
         add_clean(clean, text.text())?;
     }
     Ok(())
@@ -152,6 +152,15 @@ fn spaces_behind(own: usize, width: usize, behind: usize) -> Result<usize, Alloc
         .ok_or(AllocError)
 }
 
+/// Adds a text that has no control characters, and tells its width.
+pub(crate) fn push_clear(out: &mut Vec<u8>, text: &str) -> Result<usize, AllocError>
+    ensures text { OnOk result (out.new.items ≡ out.old.items ++ text.now) }
+    ensures width { IfOk result (λ n. n ≡ text_width text.now) }
+{
+    out.extend_from_slice(text.as_bytes())?;
+    Ok(width_of(text))
+}
+
 /// Adds a text without its control characters, that isn't plain, and tells its width.
 #[inline(never)]
 fn push_made(out: &mut Vec<u8>, text: &str, clean: &mut String) -> Result<usize, AllocError>
@@ -159,8 +168,7 @@ fn push_made(out: &mut Vec<u8>, text: &str, clean: &mut String) -> Result<usize,
     ensures width { IfOk result (λ n. n ≡ text_width (clean_text text.now)) }
 {
     make_clean(clean, text)?;
-    out.extend_from_slice(clean.as_bytes())?;
-    Ok(clean.width())
+    push_clear(out, clean)
 }
 
 /// Adds a text without its control characters, and tells its width.
@@ -208,12 +216,7 @@ fn push_any_clean_left(
     ensures { OnOk result (out.new.items ≡ out.old.items ++ clean_text text.now
         ++ replicate (width - text_width (clean_text text.now) + behind) space) }
 {
-    if is_plain(text) {
-        let spaces = spaces_behind(text.len(), width, behind)?;
-        push_bytes(out, text.as_bytes(), spaces)?;
-        return Ok(());
-    }
-    let own = push_made(out, text, clean)?;
+    let own = push_clean(out, text, clean)?;
     push_padding(out, spaces_behind(own, width, behind)?)?;
     Ok(())
 }
@@ -224,8 +227,7 @@ fn push_set(out: &mut Vec<u8>, set: &TextSet<'_>, clean: &mut String) -> Result<
     ensures width { IfOk result (λ n. n ≡ text_width (set_text set.now)) }
 {
     make_set(clean, set)?;
-    out.extend_from_slice(clean.as_bytes())?;
-    Ok(width_of(clean))
+    push_clear(out, clean)
 }
 
 /// How many columns of a terminal the texts of a set take.
@@ -413,8 +415,8 @@ const DAY_WIDTH: usize = 10;
 pub fn push_cell(
     out: &mut Vec<u8>,
     cell: &Cell<'_>,
-    scratch: &mut Scratch,
     display: &Display<'_>,
+    scratch: &mut Scratch,
 ) -> Result<usize, AllocError>
     ensures text { OnOk result (out.new.items ≡ out.old.items
         ++ cell_text (decimals_of display.now) cell.now) }
@@ -443,14 +445,8 @@ pub fn push_cell(
             display,
             &mut scratch.nears,
         ),
-        Shown::Position { key, count } => push_position(out, key.get(), *count, scratch, display),
-        Shown::Inventory { places, held } => push_inventory(
-            out,
-            *places,
-            &held.lend(),
-            scratch,
-            display,
-        ),
+        Shown::Position { key, count } => push_position(out, key.get(), *count, display, scratch),
+        Shown::Inventory { places, held } => push_inventory(out, *places, held, display, scratch),
     }
 }
 
@@ -462,14 +458,14 @@ fn push_any_left(
     cell: &Cell<'_>,
     width: usize,
     behind: usize,
-    scratch: &mut Scratch,
     display: &Display<'_>,
+    scratch: &mut Scratch,
 ) -> Result<(), AllocError>
     ensures { OnOk result (out.new.items ≡ out.old.items ++ filled false width
         (text_width (cell_text (decimals_of display.now) cell.now))
         (cell_text (decimals_of display.now) cell.now) ++ replicate behind space) }
 {
-    let own = push_cell(out, cell, scratch, display)?;
+    let own = push_cell(out, cell, display, scratch)?;
     push_padding(out, spaces_behind(own, width, behind)?)?;
     Ok(())
 }
@@ -510,8 +506,8 @@ pub fn push_left(
     cell: &Cell<'_>,
     width: usize,
     behind: usize,
-    scratch: &mut Scratch,
     display: &Display<'_>,
+    scratch: &mut Scratch,
 ) -> Result<(), AllocError>
     ensures { OnOk result (out.new.items ≡ out.old.items ++ filled false width
         (text_width (cell_text (decimals_of display.now) cell.now))
@@ -520,7 +516,7 @@ pub fn push_left(
     if push_text_or_day(out, cell, width, behind, scratch)? {
         return Ok(());
     }
-    push_any_left(out, cell, width, behind, scratch, display)
+    push_any_left(out, cell, width, behind, display, scratch)
 }
 
 /// Adds a number at the right of a column that is so wide, with the fewest decimals that are exact, and
@@ -549,16 +545,16 @@ fn push_any_right(
     cell: &Cell<'_>,
     width: usize,
     behind: usize,
-    scratch: &mut Scratch,
     display: &Display<'_>,
+    scratch: &mut Scratch,
 ) -> Result<(), AllocError>
     ensures { OnOk result (out.new.items ≡ out.old.items ++ filled true width
         (text_width (cell_text (decimals_of display.now) cell.now))
         (cell_text (decimals_of display.now) cell.now) ++ replicate behind space) }
 {
-    let own = cell_width(cell, scratch, display)?;
+    let own = cell_width(cell, display, scratch)?;
     push_padding(out, width.saturating_sub(own))?;
-    push_cell(out, cell, scratch, display)?;
+    push_cell(out, cell, display, scratch)?;
     push_padding(out, behind)?;
     Ok(())
 }
@@ -570,8 +566,8 @@ pub fn push_right(
     cell: &Cell<'_>,
     width: usize,
     behind: usize,
-    scratch: &mut Scratch,
     display: &Display<'_>,
+    scratch: &mut Scratch,
 ) -> Result<(), AllocError>
     ensures { OnOk result (out.new.items ≡ out.old.items ++ filled true width
         (text_width (cell_text (decimals_of display.now) cell.now))
@@ -580,15 +576,15 @@ pub fn push_right(
     if let Shown::Number { places, count } = cell.shown() {
         return push_exact_right(out, *count, *places, width, behind);
     }
-    push_any_right(out, cell, width, behind, scratch, display)
+    push_any_right(out, cell, width, behind, display, scratch)
 }
 
 /// How many columns of a terminal the text of a cell takes.
 #[inline(always)]
 pub fn cell_width(
     cell: &Cell<'_>,
-    scratch: &mut Scratch,
     display: &Display<'_>,
+    scratch: &mut Scratch,
 ) -> Result<usize, AllocError>
     ensures { IfOk result (λ n. n
         ≡ text_width (cell_text (decimals_of display.now) cell.now)) }
@@ -605,12 +601,7 @@ pub fn cell_width(
             count,
             currency,
         } => Ok(units_width(*count, *places, currency.get(), display, &mut scratch.nears)),
-        Shown::Position { key, count } => position_width(key.get(), *count, scratch, display),
-        Shown::Inventory { places, held } => inventory_width(
-            *places,
-            &held.lend(),
-            scratch,
-            display,
-        ),
+        Shown::Position { key, count } => position_width(key.get(), *count, display, scratch),
+        Shown::Inventory { places, held } => inventory_width(*places, held, display, scratch),
     }
 }

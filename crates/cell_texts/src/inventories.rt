@@ -1,4 +1,7 @@
 //! The texts of inventories, and how wide they are.
+//!
+//! What inventories lend has one lifetime here, as in the cells that lend them: the checker compares
+//! fewer types for it.
 ghost use Rattle.std.specs.Prelude.{◌≡◌, ◌+◌, ◌++◌, OnOk, IfOk, IfSome, true};
 ghost use Rattle.std.specs.Int.{is_in_range};
 ghost use Rattle.std.specs.List.{list_all};
@@ -6,11 +9,10 @@ ghost use Rattle.std.specs.String.{string_bytes};
 ghost use Rattle.posting_table.specs.Decimals.{decimals_of};
 ghost use Rattle.cell_texts.specs.Width.{text_width};
 ghost use Rattle.query_holdings.specs.Entries.{in_order};
-ghost use Rattle.cell_texts.specs.CellText.{bag_text, between_entries, entries_text};
+ghost use Rattle.cell_texts.specs.CellText.{bag_text, entries_text};
 ghost use Rattle.cell_texts.specs.CellText as spec;
-ghost use Rattle.theory.specs.Joined.{gap_before};
 
-use crate::cells::{Scratch, held_width, push_held, width_of};
+use crate::cells::{Scratch, add_between, held_width, push_clear, push_held, width_of};
 use crate::nears::Nears;
 use crate::numbers::Numbers;
 use crate::positions::add_entry;
@@ -21,17 +23,6 @@ use std::alloc::AllocError;
 /// How wide what stands between two entries is.
 const BETWEEN_WIDTH: usize = 2;
 
-/// Adds what stands before an entry.
-fn add_gap(clean: &mut String, entry: usize) -> Result<(), AllocError>
-    ensures { OnOk result (string_bytes clean.new
-        ≡ string_bytes clean.old ++ gap_before between_entries entry) }
-{
-    if entry > 0 {
-        clean.push_str(", ")?;
-    }
-    Ok(())
-}
-
 /// Whether an entry is held without a lot.
 fn is_plain(entry: &Entry<'_, '_>) -> bool
     ensures { result ≡ spec.is_plain entry.now }
@@ -40,7 +31,7 @@ fn is_plain(entry: &Entry<'_, '_>) -> bool
 }
 
 /// Whether all entries are held without a lot, as most are.
-fn are_plain(entries: &InOrder<'_, '_>) -> bool
+fn are_plain<'h>(entries: &InOrder<'h, 'h>) -> bool
     ensures { result ≡ list_all spec.is_plain entries.now }
 {
     for place in 0..entries.len() {
@@ -52,13 +43,13 @@ fn are_plain(entries: &InOrder<'_, '_>) -> bool
 }
 
 /// Adds entries that are held without a lot.
-fn push_plain(
+fn push_plain<'h>(
     out: &mut Vec<u8>,
-    entries: &InOrder<'_, '_>,
+    entries: &InOrder<'h, 'h>,
     places: u8,
+    display: &Display<'_>,
     nears: &mut Nears,
     numbers: &mut Numbers,
-    display: &Display<'_>,
 ) -> Result<(), AllocError>
     requires plain { list_all spec.is_plain entries.now ≡ true }
     ensures text { OnOk result (out.new.items
@@ -94,12 +85,12 @@ fn wider(width: usize, own: usize) -> Option<usize>
 
 /// How many columns of a terminal entries take that are all held without a lot, or none where one is
 /// held in a lot. They take as many in any order.
-fn plain_width(
-    held: &Holdings<'_, '_>,
+fn plain_width<'h>(
+    held: &Holdings<'h, 'h>,
     places: u8,
+    display: &Display<'_>,
     nears: &mut Nears,
     numbers: &mut Numbers,
-    display: &Display<'_>,
 ) -> Option<usize>
     ensures { IfSome result (λ n. n
         ≡ text_width (entries_text (decimals_of display.now) places (in_order held.now))) }
@@ -118,10 +109,10 @@ fn plain_width(
 }
 
 /// The text of entries, in place of what was there.
-fn make_entries(
+fn make_entries<'h>(
     scratch: &mut Scratch,
     places: u8,
-    entries: &InOrder<'_, '_>,
+    entries: &InOrder<'h, 'h>,
     display: &Display<'_>,
 ) -> Result<(), AllocError>
     ensures { OnOk result (string_bytes scratch.new.clean
@@ -130,58 +121,73 @@ fn make_entries(
     scratch.clean.clear();
     for place in 0..entries.len() {
         let entry = entries.entry(place);
-        add_gap(&mut scratch.clean, place)?;
+        add_between(&mut scratch.clean, ", ", place)?;
         let lent = entry.key();
         add_entry(scratch, &lent.key(), entry.count(), places, display)?;
     }
     Ok(())
 }
 
+/// Adds entries, and tells their width.
+fn push_entries<'h>(
+    out: &mut Vec<u8>,
+    entries: &InOrder<'h, 'h>,
+    places: u8,
+    display: &Display<'_>,
+    scratch: &mut Scratch,
+) -> Result<usize, AllocError>
+    ensures text { OnOk result (out.new.items
+        ≡ out.old.items ++ entries_text (decimals_of display.now) places entries.now) }
+    ensures width { IfOk result (λ n. n
+        ≡ text_width (entries_text (decimals_of display.now) places entries.now)) }
+{
+    if are_plain(entries) {
+        let start = out.len();
+        push_plain(
+            out,
+            entries,
+            places,
+            display,
+            &mut scratch.nears,
+            &mut scratch.numbers,
+        )?;
+        return Ok(out.len() - start);
+    }
+    make_entries(scratch, places, entries, display)?;
+    push_clear(out, &scratch.clean)
+}
+
 /// Adds an inventory, and tells its width.
-pub(crate) fn push_inventory(
+pub(crate) fn push_inventory<'h>(
     out: &mut Vec<u8>,
     places: u8,
-    held: &Holdings<'_, '_>,
-    scratch: &mut Scratch,
+    held: &Holdings<'h, 'h>,
     display: &Display<'_>,
+    scratch: &mut Scratch,
 ) -> Result<usize, AllocError>
     ensures text { OnOk result (out.new.items
         ≡ out.old.items ++ bag_text (decimals_of display.now) (record { places = places; held = held.now })) }
     ensures width { IfOk result (λ n. n ≡ text_width (bag_text (decimals_of display.now) (record { places = places; held = held.now }))) }
 {
     let entries = held.in_order(scratch.alloc)?;
-    if are_plain(&entries) {
-        let start = out.len();
-        push_plain(
-            out,
-            &entries,
-            places,
-            &mut scratch.nears,
-            &mut scratch.numbers,
-            display,
-        )?;
-        return Ok(out.len() - start);
-    }
-    make_entries(scratch, places, &entries, display)?;
-    out.extend_from_slice(scratch.clean.as_bytes())?;
-    Ok(width_of(&scratch.clean))
+    push_entries(out, &entries, places, display, scratch)
 }
 
 /// How many columns of a terminal an inventory takes.
-pub(crate) fn inventory_width(
+pub(crate) fn inventory_width<'h>(
     places: u8,
-    held: &Holdings<'_, '_>,
-    scratch: &mut Scratch,
+    held: &Holdings<'h, 'h>,
     display: &Display<'_>,
+    scratch: &mut Scratch,
 ) -> Result<usize, AllocError>
     ensures { IfOk result (λ n. n ≡ text_width (bag_text (decimals_of display.now) (record { places = places; held = held.now }))) }
 {
     if let Some(width) = plain_width(
         held,
         places,
+        display,
         &mut scratch.nears,
         &mut scratch.numbers,
-        display,
     ) {
         return Ok(width);
     }

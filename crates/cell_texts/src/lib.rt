@@ -3,11 +3,11 @@
 //! ```text
 //! let mut scratch = Scratch::new(alloc);
 //! let cell = Cell::position(&dollars, 10_000_000_000);
-//! cell_width(&cell, &mut scratch, display)?;                 // 10
-//! wider(4, &cell, &mut scratch, display)?;                   // 10
-//! push_cell(&mut out, &cell, &mut scratch, display)?;        // 100.00 USD, and 10
-//! push_left(&mut out, &cell, 12, 1, &mut scratch, display)?;  // the same, with three spaces behind it
-//! push_right(&mut out, &cell, 12, 1, &mut scratch, display)?; // the same, with two before and one behind
+//! cell_width(&cell, display, &mut scratch)?;                 // 10
+//! wider(4, &cell, display, &mut scratch)?;                   // 10
+//! push_cell(&mut out, &cell, display, &mut scratch)?;        // 100.00 USD, and 10
+//! push_left(&mut out, &cell, 12, 1, display, &mut scratch)?;  // the same, with three spaces behind it
+//! push_right(&mut out, &cell, 12, 1, display, &mut scratch)?; // the same, with two before and one behind
 //! ```
 //!
 //! # The text

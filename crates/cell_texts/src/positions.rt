@@ -8,7 +8,9 @@ ghost use Rattle.number_texts.specs.Digits.{day_text};
 ghost use Rattle.cell_texts.specs.Width.{text_width};
 ghost use Rattle.cell_texts.specs.CellText.{entry_text, label_text, lot_text, position_text, units_text};
 
-use crate::cells::{Scratch, add_clean, push_amount, push_units, units_width, width_of};
+use crate::cells::{
+    Scratch, add_clean, push_amount, push_clear, push_units, units_width, width_of,
+};
 use bean_base::{Currency, Day, Text};
 use bean_lots::{COUNT_PLACES, Key, Lot};
 use number_texts::push_day;
@@ -132,8 +134,8 @@ pub(crate) fn push_position(
     out: &mut Vec<u8>,
     key: &Key<'_>,
     count: i128,
-    scratch: &mut Scratch,
     display: &Display<'_>,
+    scratch: &mut Scratch,
 ) -> Result<usize, AllocError>
     ensures text { OnOk result (out.new.items ≡ out.old.items
         ++ position_text (decimals_of display.now) key.now count) }
@@ -152,8 +154,7 @@ pub(crate) fn push_position(
         );
     }
     make_position(scratch, key, count, display)?;
-    out.extend_from_slice(scratch.clean.as_bytes())?;
-    Ok(width_of(&scratch.clean))
+    push_clear(out, &scratch.clean)
 }
 
 /// How many columns of a terminal a position takes.
@@ -161,8 +162,8 @@ pub(crate) fn push_position(
 pub(crate) fn position_width(
     key: &Key<'_>,
     count: i128,
-    scratch: &mut Scratch,
     display: &Display<'_>,
+    scratch: &mut Scratch,
 ) -> Result<usize, AllocError>
     ensures { IfOk result (λ n. n
         ≡ text_width (position_text (decimals_of display.now) key.now count)) }

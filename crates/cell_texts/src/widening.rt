@@ -63,8 +63,8 @@ fn wider_by_number(width: usize, count: i128, places: u8) -> usize
 pub fn wider(
     width: usize,
     cell: &Cell<'_>,
-    scratch: &mut Scratch,
     display: &Display<'_>,
+    scratch: &mut Scratch,
 ) -> Result<usize, AllocError>
     ensures { IfOk result (λ n. n
         ≡ max width (text_width (cell_text (decimals_of display.now) cell.now))) }
@@ -72,6 +72,6 @@ pub fn wider(
     match cell.shown() {
         Shown::Text(text) => wider_by_text(width, text.text(), &mut scratch.clean),
         Shown::Number { places, count } => Ok(wider_by_number(width, *count, *places)),
-        _ => Ok(width.max(cell_width(cell, scratch, display)?)),
+        _ => Ok(width.max(cell_width(cell, display, scratch)?)),
     }
 }

@@ -65,12 +65,12 @@ impl<R: Copy> Front<R> {
 #[inline(never)]
 fn push_new_front<T: Rows>(
     out: &mut Vec<u8>,
+    scratch: &mut Scratch,
     row: &T::Row,
+    display: &Display<'_>,
     headings: &[Heading<'_>],
     count: usize,
     kept: &mut Option<Front<T::Row>>,
-    scratch: &mut Scratch,
-    display: &Display<'_>,
 ) -> Result<(), AllocError>
     requires within { count ≤ length headings.now }
     requires many { length headings.now ≤ length (T.values row.now) }
@@ -81,7 +81,7 @@ fn push_new_front<T: Rows>(
 {
     let start = out.len();
     let line: RowLine<'_, T> = RowLine { row };
-    push_cells(out, &line, headings, 0, count, scratch, display)?;
+    push_cells(out, scratch, &line, display, headings, 0, count)?;
     *kept = Front::new(*row, out, start);
     Ok(())
 }
@@ -91,12 +91,12 @@ fn push_new_front<T: Rows>(
 #[inline(always)]
 pub(crate) fn push_front<T: Rows>(
     out: &mut Vec<u8>,
+    scratch: &mut Scratch,
     row: &T::Row,
+    display: &Display<'_>,
     headings: &[Heading<'_>],
     count: usize,
     kept: &mut Option<Front<T::Row>>,
-    scratch: &mut Scratch,
-    display: &Display<'_>,
 ) -> Result<(), AllocError>
     requires within { count ≤ length headings.now }
     requires many { length headings.now ≤ length (T.values row.now) }
@@ -114,5 +114,5 @@ pub(crate) fn push_front<T: Rows>(
             return front.push(out);
         }
     }
-    push_new_front::<T>(out, row, headings, count, kept, scratch, display)
+    push_new_front::<T>(out, scratch, row, display, headings, count, kept)
 }

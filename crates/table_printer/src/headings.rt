@@ -25,9 +25,9 @@ pub(crate) struct Heading<'a> {
 
 /// The heading of a column without rows: as wide as its name, and at least 1.
 pub(crate) fn heading_of<'t, T: Rows>(
+    scratch: &mut Scratch,
     table: &'t T,
     column: usize,
-    scratch: &mut Scratch,
     display: &Display<'_>,
 ) -> Result<Heading<'t>, AllocError>
     requires { column < length (T.names table.now) }
@@ -36,7 +36,7 @@ pub(crate) fn heading_of<'t, T: Rows>(
 {
     let name = table.name(column);
     let cell = Cell::text(name);
-    let width = cell_width(&cell, scratch, display)?.max(1);
+    let width = cell_width(&cell, display, scratch)?.max(1);
     Ok(Heading {
         name: Slice::new(name),
         width,
@@ -58,7 +58,7 @@ fn bare_headings<'t, T: Rows>(
 {
     let mut headings = Vec::with_capacity(alloc, count)?;
     for column in 0..count {
-        headings.push(heading_of(table, column, scratch, display)?)?;
+        headings.push(heading_of(scratch, table, column, display)?)?;
     }
     Ok(headings)
 }
@@ -66,15 +66,15 @@ fn bare_headings<'t, T: Rows>(
 /// Makes a heading as wide as a cell, where it is less, and notes whether the cell is a number.
 #[inline(always)]
 fn widen(
-    heading: &mut Heading<'_>,
     cell: &Cell<'_>,
-    scratch: &mut Scratch,
     display: &Display<'_>,
+    scratch: &mut Scratch,
+    heading: &mut Heading<'_>,
 ) -> Result<(), AllocError>
     ensures { OnOk result (heading.new
         ≡ with_cell (decimals_of display.now) heading.old cell.now) }
 {
-    heading.width = wider(heading.width, cell, scratch, display)?;
+    heading.width = wider(heading.width, cell, display, scratch)?;
     if is_number(cell) {
         heading.has_numbers = true;
     }
@@ -84,11 +84,11 @@ fn widen(
 /// The same for all cells of a row that stand under headings, of which the first change nothing.
 #[inline(always)]
 fn widen_all<T: Rows>(
-    headings: &mut [Heading<'_>],
+    scratch: &mut Scratch,
     row: &T::Row,
     known: usize,
-    scratch: &mut Scratch,
     display: &Display<'_>,
+    headings: &mut [Heading<'_>],
 ) -> Result<(), AllocError>
     requires many { length headings.old ≤ length (T.values row.now) }
     requires known { with_row (decimals_of display.now) headings.old (take known (T.values row.now))
@@ -98,10 +98,10 @@ fn widen_all<T: Rows>(
 {
     for column in known..headings.len() {
         widen(
-            &mut headings[column],
             &T::cell(row, column),
-            scratch,
             display,
+            scratch,
+            &mut headings[column],
         )?;
     }
     Ok(())
@@ -143,7 +143,7 @@ pub(crate) fn headings<'t, N: Rows, T: Rows>(
     for number in 0..table.len() {
         let row = table.row(number);
         let known = alike::<T>(&row, &before);
-        widen_all::<T>(&mut headings, &row, known, scratch, display)?;
+        widen_all::<T>(scratch, &row, known, display, &mut headings)?;
         before = Some(row);
     }
     Ok(headings)

@@ -114,10 +114,10 @@ fn push_gap(out: &mut Vec<u8>, column: usize) -> Result<(), AllocError>
 #[inline(never)]
 fn push_any_placed<L: Line>(
     out: &mut Vec<u8>,
+    scratch: &mut Scratch,
     line: &L,
     column: usize,
     width: usize,
-    scratch: &mut Scratch,
     display: &Display<'_>,
 ) -> Result<(), AllocError>
     requires { column < length (L.cells line.now) }
@@ -126,17 +126,17 @@ fn push_any_placed<L: Line>(
         ++ before_gap (padded width (placed_text (decimals_of display.now) placed))) }
 {
     let placed = line.cell(column);
-    push_left(out, &placed.cell, width, GAP, scratch, display)
+    push_left(out, &placed.cell, width, GAP, display, scratch)
 }
 
 /// A cell in its column, and the gap behind it. The cell is made where it is looked at.
 #[inline(always)]
 fn push_placed<L: Line>(
     out: &mut Vec<u8>,
+    scratch: &mut Scratch,
     line: &L,
     column: usize,
     width: usize,
-    scratch: &mut Scratch,
     display: &Display<'_>,
 ) -> Result<(), AllocError>
     requires { column < length (L.cells line.now) }
@@ -146,26 +146,26 @@ fn push_placed<L: Line>(
 {
     if line.cell(column).stands_right {
         let placed = line.cell(column);
-        push_right(out, &placed.cell, width, GAP, scratch, display)?;
+        push_right(out, &placed.cell, width, GAP, display, scratch)?;
         return Ok(());
     }
     let placed = line.cell(column);
     if push_text_or_day(out, &placed.cell, width, GAP, scratch)? {
         return Ok(());
     }
-    push_any_placed(out, line, column, width, scratch, display)
+    push_any_placed(out, scratch, line, column, width, display)
 }
 
 /// The cells of a line from one column up to another, each in its column and with the gap behind it.
 #[inline(always)]
 pub(crate) fn push_cells<L: Line>(
     out: &mut Vec<u8>,
+    scratch: &mut Scratch,
     line: &L,
+    display: &Display<'_>,
     headings: &[Heading<'_>],
     from: usize,
     to: usize,
-    scratch: &mut Scratch,
-    display: &Display<'_>,
 ) -> Result<(), AllocError>
     requires order { from ≤ to }
     requires within { to ≤ length headings.now }
@@ -178,7 +178,7 @@ pub(crate) fn push_cells<L: Line>(
         (map (placed_text (decimals_of display.now)) (L.cells line.now))))) }
 {
     for column in from..to {
-        push_placed(out, line, column, headings[column].width, scratch, display)?;
+        push_placed(out, scratch, line, column, headings[column].width, display)?;
     }
     Ok(())
 }
@@ -187,10 +187,10 @@ pub(crate) fn push_cells<L: Line>(
 #[inline(always)]
 fn push_last<L: Line>(
     out: &mut Vec<u8>,
+    scratch: &mut Scratch,
     line: &L,
     column: usize,
     width: usize,
-    scratch: &mut Scratch,
     display: &Display<'_>,
 ) -> Result<usize, AllocError>
     requires { column < length (L.cells line.now) }
@@ -200,21 +200,21 @@ fn push_last<L: Line>(
 {
     if line.cell(column).stands_right {
         let placed = line.cell(column);
-        push_right(out, &placed.cell, width, 0, scratch, display)?;
+        push_right(out, &placed.cell, width, 0, display, scratch)?;
         return Ok(0);
     }
     let placed = line.cell(column);
-    let own = push_cell(out, &placed.cell, scratch, display)?;
+    let own = push_cell(out, &placed.cell, display, scratch)?;
     Ok(width.saturating_sub(own))
 }
 
 /// The cells of a line, each in its column. Tells how many spaces fill up the last.
 fn push_joined<L: Line>(
     out: &mut Vec<u8>,
-    line: &L,
-    headings: &[Heading<'_>],
     scratch: &mut Scratch,
+    line: &L,
     display: &Display<'_>,
+    headings: &[Heading<'_>],
 ) -> Result<usize, AllocError>
     requires { length (L.cells line.now) ≡ length headings.now }
     ensures { IfOk result (λ left. Leaves out.old.items out.new.items left
@@ -224,8 +224,8 @@ fn push_joined<L: Line>(
     let Some((last, front)) = headings.split_last() else {
         return Ok(0);
     };
-    push_cells(out, line, front, 0, front.len(), scratch, display)?;
-    let left = push_last(out, line, front.len(), last.width, scratch, display)?;
+    push_cells(out, scratch, line, display, front, 0, front.len())?;
+    let left = push_last(out, scratch, line, front.len(), last.width, display)?;
     Ok(left)
 }
 
@@ -244,17 +244,17 @@ pub(crate) fn end_line(out: &mut Vec<u8>, start: usize) -> Result<(), AllocError
 /// A line, without spaces at its end.
 pub(crate) fn push_line<L: Line>(
     out: &mut Vec<u8>,
-    line: &L,
-    headings: &[Heading<'_>],
     scratch: &mut Scratch,
+    line: &L,
     display: &Display<'_>,
+    headings: &[Heading<'_>],
 ) -> Result<(), AllocError>
     requires { length (L.cells line.now) ≡ length headings.now }
     ensures { OnOk result (out.new.items ≡ out.old.items ++ line_of (map width_of headings.now)
         (map (placed_text (decimals_of display.now)) (L.cells line.now))) }
 {
     let start = out.len();
-    push_joined(out, line, headings, scratch, display)?;
+    push_joined(out, scratch, line, display, headings)?;
     end_line(out, start)?;
     Ok(())
 }

@@ -39,12 +39,12 @@ pub(crate) fn has_no_number<T: Rows>(table: &T, column: usize) -> bool
 #[inline(always)]
 fn push_open_line<T: Rows>(
     out: &mut Vec<u8>,
+    scratch: &mut Scratch,
     row: &T::Row,
+    display: &Display<'_>,
     headings: &[Heading<'_>],
     front: usize,
     kept: &mut Option<Front<T::Row>>,
-    scratch: &mut Scratch,
-    display: &Display<'_>,
 ) -> Result<usize, AllocError>
     requires many { length (T.values row.now) ≡ length headings.now + 1 }
     requires front { front ≤ length headings.now }
@@ -60,17 +60,17 @@ fn push_open_line<T: Rows>(
 {
     let start = out.len();
     let line: RowLine<'_, T> = RowLine { row };
-    push_front::<T>(out, row, headings, front, kept, scratch, display)?;
+    push_front::<T>(out, scratch, row, display, headings, front, kept)?;
     push_cells(
         out,
+        scratch,
         &line,
+        display,
         headings,
         front,
         headings.len(),
-        scratch,
-        display,
     )?;
-    let own = push_cell(out, &T::cell(row, headings.len()), scratch, display)?;
+    let own = push_cell(out, &T::cell(row, headings.len()), display, scratch)?;
     end_line(out, start)?;
     Ok(own)
 }
@@ -102,12 +102,12 @@ pub(crate) fn push_open_rows<T: Rows>(
         let row = table.row(number);
         let own = push_open_line::<T>(
             &mut out.last,
+            scratch,
             &row,
+            display,
             headings,
             front,
             &mut kept,
-            scratch,
-            display,
         )?;
         most = most.max(own);
     }

@@ -20,7 +20,6 @@ use posting_table::Display;
 use std::alloc::{AllocError, Global};
 
 /// A table of which some rows are printed.
-#[derive(Drop)]
 pub struct Printer<'t> {
     alloc: Global,
     /// The columns that were measured over all rows.
@@ -29,6 +28,19 @@ pub struct Printer<'t> {
     own: Option<Heading<'t>>,
     scratch: Scratch,
     lines: Growing,
+}
+
+/// Written out, so that what gives one up needs to know nothing of what is in it.
+impl Drop for Printer<'_> {
+    fn drop(self) {
+        let Printer {
+            alloc: _,
+            headings: _,
+            own: _,
+            scratch: _,
+            lines: _,
+        } = self;
+    }
 }
 
 /// Where the text of a table is to stand.
@@ -66,7 +78,7 @@ fn push_head(
         ++ head_of (map width_of headings.now) (map heading_text headings.now)) }
 {
     let header = HeaderLine { headings };
-    push_line(out, &header, headings, scratch, display)?;
+    push_line(out, scratch, &header, display, headings)?;
     push_rule(out, headings)?;
     Ok(())
 }
@@ -110,7 +122,7 @@ impl<'t> Printer<'t> {
     {
         let mut scratch = scratch;
         let headings = headings(alloc, names, table, last, &mut scratch, display)?;
-        let own = heading_of(names, last, &mut scratch, display)?;
+        let own = heading_of(&mut scratch, names, last, display)?;
         let lines = room_in(alloc, room, &headings, table.len())?;
         Ok(Printer {
             alloc,

@@ -33,7 +33,7 @@ pub(crate) fn push_rows<T: Rows>(
         out.make_room(alloc)?;
         let row = table.row(number);
         let line: RowLine<'_, T> = RowLine { row: &row };
-        push_line(&mut out.last, &line, headings, scratch, display)?;
+        push_line(&mut out.last, scratch, &line, display, headings)?;
     }
     Ok(())
 }

@@ -13,7 +13,7 @@ loop-i-preserved c =
     let many = ap length c.as_slice-text-items.ensures.texts in
     let gap = gap_before between_members i in
     c.in_ok-add_clean.ensures
-    ∙ (λ k. c.in_ok-add_separator.ensures k ++ clean_text (c.text.ensures k))
+    ∙ (λ k. c.in_ok-add_between.ensures k ++ clean_text (c.text.ensures k))
     ∙ ap (λ l. (l ++ gap) ++ clean_text text) c.loop-i.invariant
     ∙ append_assoc (set_text (take i set)) gap (clean_text text)
     ∙ sym (joined_next between_members clean_text set i text

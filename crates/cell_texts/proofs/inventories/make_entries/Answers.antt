@@ -24,7 +24,7 @@ loop-place-preserved c =
     let count = ap (λ n. to_z w128 (of_z w128 n)) c.count.ensures ∙ to_z-of_z w128 entry.count fits in
     let key = c.key.ensures ∙ c.key-lent.ensures in
     c.in_ok-add_entry.ensures
-    ∙ (λ k. c.in_ok-add_gap.ensures k ++ entry_text display places (key k) (count k))
+    ∙ (λ k. c.in_ok-add_between.ensures k ++ entry_text display places (key k) (count k))
     ∙ ap (λ l. (l ++ gap) ++ text_of_entry display places entry) c.loop-place.invariant
     ∙ append_assoc so_far gap (text_of_entry display places entry)
     ∙ sym (joined_next between_entries (text_of_entry display places) entries i entry
