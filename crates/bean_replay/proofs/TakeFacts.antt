@@ -1,6 +1,6 @@
 -- One more directive.
 use Rattle.std.proofs.Common.{◌≡◌, ℕ, suc, ◌+◌, List, [], ◌∷◌, ◌++◌, length}
-use Rattle.std.proofs.Common.{Option, refl, sym, ap, ◌∙◌, subst, arith}
+use Rattle.std.proofs.Common.{Option, Result, refl, sym, ap, ◌∙◌, subst, arith}
 use Rattle.std.specs.declared.vec.Vec.{Vec}
 use Rattle.std.specs.declared.alloc.Global.{Global}
 use Rattle.bean_accounts.specs.Kept.{IsKept}
@@ -19,8 +19,11 @@ use Rattle.bean_interp.specs.declared.scales.Scales.{Scales}
 use Rattle.bean_loaded.specs.declared.placed.Placed.{Placed}
 use Rattle.bean_reductions.specs.declared.reduction.Method.{Method}
 use Rattle.bean_transactions.specs.Lines.{IsSettled}
-use Rattle.bean_replay.specs.Booker.{HasRoom, IsBehind, IsStanding}
-use Rattle.bean_replay.specs.Stand.{IsStepBy, Stand, account_step, account_steps, setting_of}
+use Rattle.bean_transactions.specs.Tried.{Tries}
+use Rattle.bean_transactions.specs.declared.stop.LineFault.{LineFault}
+use Rattle.bean_replay.specs.Booker.{HasRoom, IsBehind, IsStanding, IsWritten}
+use Rattle.bean_replay.specs.Stand.{IsFull, IsStepBy, Stand, account_step, account_steps}
+use Rattle.bean_replay.specs.Stand.{after_trial, setting_of, written_in}
 use Rattle.bean_replay.specs.declared.booker.Booker.{Booker}
 use Rattle.bean_replay.specs.declared.booking.Draft.{Draft}
 use Rattle.bean_replay.specs.declared.written.WrittenParts.{WrittenParts as Written}
@@ -95,6 +98,36 @@ stepped m past st new d k b booked e step none behind = (
   subst (λ k. IsStepBy m past st d k new) (sym e) step,
   record { stands = later m past new d b (ap account_step e ∙ none) behind.stands; adds = behind.adds },
 )
+
+-- a transaction was taken, with what is booked of it
+pub booked_step : (m : List ℕ → Method) (past : List (Placed Directive)) (st : Stand)
+    (d : Placed Directive) (w : Written) (booked : Option Draft) (b : Booker) → IsWritten d w
+    → ((r : Result (List Posted) LineFault) × Tries (setting_of m st w) w.transaction.postings r
+    × IsBehind m past st (after_trial past st w r) booked b)
+    → (new : Stand) × IsStepBy m past st d d.item.kind new × IsBehind m (d ∷ past) st new booked b
+booked_step m past st d w booked b own done =
+    let t = own.0 in
+    stepped m past st (after_trial past st (written_in d t) done.0) d (kind.Transaction t) b booked
+    own.1 (
+      done.0,
+      subst (λ w. Tries (setting_of m st w) w.transaction.postings done.0) own.2 done.1,
+      refl,
+    ) refl
+    (subst (λ w. IsBehind m past st (after_trial past st w done.0) booked b) own.2 done.2)
+
+-- where a transaction fills the books, its directive does
+pub full_step : (m : List ℕ → Method) (past : List (Placed Directive)) (st : Stand)
+    (d : Placed Directive) (w : Written) → IsWritten d w → (new : Stand)
+    → IsStepBy m past st d d.item.kind new
+    → ((r : Result (List Posted) LineFault) → Tries (setting_of m st w) w.transaction.postings r
+    → IsFull (after_trial past st w r))
+    → IsFull new
+full_step m past st d w own new step full =
+    let by = subst (λ k. IsStepBy m past st d k new) own.1 step in
+    let tries =
+    subst (λ w. Tries (setting_of m st w) w.transaction.postings by.0) (sym own.2) by.1 in
+    subst IsFull (sym by.2)
+    (subst (λ w. IsFull (after_trial past st w by.0)) own.2 (full by.0 tries))
 
 -- other directives do nothing
 pub other : (m : List ℕ → Method) (past : List (Placed Directive)) (st : Stand)

@@ -1,9 +1,12 @@
 -- What is kept while directives are taken.
-use Rattle.std.specs.Prelude.{◌≡◌, ◌≤◌, ◌+◌, ◌^◌, ℕ, Bool, List, [], ◌∷◌, ◌++◌, length, Option, Some, None}
+use Rattle.std.specs.Prelude.{◌≡◌, ◌≤◌, ◌+◌, ◌^◌, ℕ, Bool, true, false, List, [], ◌∷◌, ◌++◌, length}
+use Rattle.std.specs.Prelude.{Option, Some, None}
 use Rattle.limits.specs.declared.counts.TheConstants.{MOST_POSTINGS}
 use Rattle.bean_accounts.specs.Kept as accounts
 use Rattle.bean_accounts.specs.Log.{asked_for, is_kept}
 use Rattle.bean_directives.specs.declared.directive.Directive.{Directive}
+use Rattle.bean_directives.specs.declared.directive.DirectiveKind.TheVariants as kind
+use Rattle.bean_directives.specs.declared.transaction.Transaction.{Transaction}
 use Rattle.bean_loaded.specs.declared.placed.Placed.{Placed}
 use Rattle.bean_reductions.specs.declared.reduction.Method.{Method}
 use Rattle.bean_pad.specs.Following as following
@@ -13,9 +16,13 @@ use Rattle.bean_holdings.specs.Holdings as holdings
 use Rattle.bean_holdings.specs.Holdings.{AreHeld, additions_in}
 use Rattle.bean_accounts.specs.Methods.{method_in}
 use Rattle.bean_replay.specs.Stand.{LeadsTo, Stand, account_steps, postings_of, steps_of_postings}
+use Rattle.bean_replay.specs.Stand.{written_in}
 use Rattle.bean_replay.specs.Watched.{unseen_of}
 use Rattle.bean_replay.specs.declared.booker.Booker.{Booker}
+use Rattle.bean_holdings.specs.declared.posted.Posted.{Posted}
 use Rattle.bean_replay.specs.declared.booking.Draft.{Draft}
+use Rattle.bean_replay.specs.declared.booking.Draft.TheVariants as draft
+use Rattle.bean_replay.specs.declared.written.WrittenParts.{WrittenParts as Written}
 use Rattle.bean_replay.specs.declared.bookings.Bookings.{Ghosts as BookingsOf}
 
 -- whether postings are watched, and whether faults are kept
@@ -62,6 +69,20 @@ pub record Stands (b : Booker) : Type 0 where
 abbrev pub drafts_in : Option Draft → List Draft
 drafts_in None = []
 drafts_in (Some d) = d ∷ []
+
+-- this transaction is written in a directive
+abbrev pub IsWritten : Placed Directive → Written → Type 0
+IsWritten d w = (t : Transaction) × (d.item.kind ≡ kind.Transaction t) × (w ≡ written_in d t)
+
+-- the place of a pad, if it is one
+abbrev pub pad_if : Bool → Option Draft
+pad_if true = Some draft.Pad
+pad_if false = None
+
+-- a transaction, with the postings that it is booked as if it is kept
+abbrev pub draft_of : Written → Option (List Posted) → Option Draft
+draft_of w None = None
+draft_of w (Some posted) = Some (draft.Transaction (record { written = w; postings = posted }))
 
 -- one directive later it stands there, and this was booked of the directive
 pub record IsBehind (m : List ℕ → Method) (past : List (Placed Directive)) (old new : Stand)

@@ -4,7 +4,8 @@ ghost use Rattle.std.specs.Prelude as prelude;
 ghost use Rattle.std.specs.List.{AllByRecursion};
 ghost use Rattle.bean_replay.specs.Booked as spec;
 ghost use Rattle.bean_replay.specs.Booked.{HasTooMany, IsBooked, IsFinished};
-ghost use Rattle.bean_replay.specs.Booker.{IsLed, Stands};
+ghost use Rattle.bean_pad.specs.Note.{noted_pads};
+ghost use Rattle.bean_replay.specs.Booker.{IsLed, Stands, Wherever};
 ghost use Rattle.bean_replay.specs.Stand.{IsFull, LeadsTo, Stand};
 ghost use Rattle.bean_replay.specs.Small.{IsSmallNoted};
 ghost use Rattle.bean_loaded.specs.Loaded as loading;
@@ -97,6 +98,27 @@ fn note_before(alloc: Global, loaded: &Loaded<'_>, faults: &mut FaultLog) -> Res
     note_unknown(loaded.methods(), faults)
 }
 
+/// What comes of the pads, once all directives are taken, and the faults, behind those that were found
+/// before.
+fn finish_found<'a>(
+    found: FaultLog,
+    booker: Booker<'a>,
+) -> Result<(List<NotedPad<'a>>, FaultLog), AllocError>
+    requires { Stands booker }
+    ensures { Wherever booker.entry (λ m past st. (l : loading.Loaded) (before : logs.FaultLog)
+        → found ≡ with_found (spec.faults_before l) before
+        → is_kept booker.entry.faults ≡ is_kept before
+        → IfOk result (λ r. (r.0 ≡ noted_pads st.steps)
+        × (r.1 ≡ with_found (spec.faults_of l st) before))) }
+{
+    let (padder, own) = booker.into_found();
+    let mut faults = found;
+    faults.join(own)?;
+    let padded = padder.finish()?;
+    faults.add_all(padded.faults)?;
+    Ok((padded.pads, faults))
+}
+
 /// Puts together what is found, once all directives are taken, with the faults that were found
 /// before.
 fn finish<'a, S: Bookings<'a> + Drop>(
@@ -113,16 +135,29 @@ fn finish<'a, S: Bookings<'a> + Drop>(
     ensures full { result ≢ prelude.Err (Refusal.Refused BookCause.TooManyPostings) }
 {
     let Led { booker, bookings } = led;
-    let (padder, own) = booker.into_found();
-    let padded = padder.finish()?;
-    let mut faults = found;
-    faults.join(own)?;
-    faults.add_all(padded.faults)?;
+    let (pads, faults) = finish_found(found, booker)?;
     Ok(Booked {
         bookings,
-        pads: padded.pads,
+        pads,
         faults,
     })
+}
+
+/// The booking methods of a ledger's accounts. The faults are added that are found before the first
+/// directive is taken.
+fn begin<'a>(
+    alloc: Global,
+    loaded: &Loaded<'a>,
+    faults: &mut FaultLog,
+) -> Result<Methods<'a>, AllocError>
+    ensures methods { IfOk result (λ methods. (a : prelude.List ℕ)
+        → spec.method_in_ledger loaded.now a ≡ method_in methods a) }
+    ensures faults { OnOk result (faults.new ≡ with_found (spec.faults_before loaded.now) faults.old) }
+{
+    let directives = loaded.directives();
+    let methods = methods_of(alloc, otherwise(loaded.methods()), directives)?;
+    note_before(alloc, loaded, faults)?;
+    Ok(methods)
 }
 
 /// What the directives of a loaded ledger are booked as. What is booked is handed over as soon as
@@ -139,10 +174,8 @@ pub fn book_directives<'a, S: Bookings<'a> + Drop>(
     ensures small { IfOk result (λ booked. AllByRecursion IsSmallNoted booked.pads) }
     ensures full { result ≡ prelude.Err (Refusal.Refused BookCause.TooManyPostings) → HasTooMany loaded.entry }
 {
-    let directives = loaded.directives();
-    let methods = methods_of(alloc, otherwise(loaded.methods()), directives)?;
     let mut faults = faults;
-    note_before(alloc, &loaded, &mut faults)?;
+    let methods = begin(alloc, &loaded, &mut faults)?;
     match take_all(alloc, methods, loaded.into_directives(), &faults, bookings) {
         Ok(led) => finish(faults, led),
         Err(fault) => Err(fault),

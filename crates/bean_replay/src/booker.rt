@@ -5,9 +5,10 @@ ghost use Rattle.std.specs.List.{AllByRecursion};
 ghost use Rattle.limits.specs.declared.counts.TheConstants.{MOST_POSTINGS};
 ghost use Rattle.bean_accounts.specs.Log.{is_kept};
 ghost use Rattle.bean_replay.specs.Booker.{IsBehind, IsStanding, Stands, Wherever, asks};
+ghost use Rattle.bean_replay.specs.Booker.{draft_of, pad_if};
 ghost use Rattle.bean_replay.specs.Stand as spec;
 ghost use Rattle.bean_replay.specs.Stand.{IsFull, IsStepBy, Stand, after_trial, setting_of, start};
-ghost use Rattle.bean_replay.specs.Watched.{IsWatched, is_watching};
+ghost use Rattle.bean_replay.specs.Watched.{is_watching};
 ghost use Rattle.bean_directives.specs.declared.directive.Directive as directives;
 ghost use Rattle.bean_directives.specs.declared.directive.DirectiveKind.TheVariants as kinds;
 ghost use Rattle.bean_directives.specs.declared.transaction.Transaction as transactions;
@@ -21,33 +22,23 @@ ghost use Rattle.bean_holdings.specs.declared.posted.Posted as declared;
 ghost use Rattle.bean_transactions.specs.declared.stop.LineFault as trials;
 
 use crate::accounts::{take_balance, take_close, take_open, take_pad};
-use crate::booking::{Draft, Kept};
+use crate::booking::Kept;
 use crate::cause::BookCause;
 use crate::postings::{book_postings, note_balance};
 use crate::steps::show_watched;
 use crate::written::Written;
 use bean_accounts::{Accounts, FaultLog, Methods};
 use bean_base::{Day, Fault, List, Place};
-use bean_directives::{ApartDirective, DirectiveKind};
+use bean_directives::DirectiveKind;
 use bean_holdings::{Holdings, Posted};
 use bean_interp::Scales;
-use bean_loaded::Placed;
 use bean_pad::Padder;
+use bean_postings::WrittenPosting;
 use bean_transactions::{Head, LineFault, Tried, try_transaction};
 use limits::MOST_POSTINGS;
 use refusals::Refusal;
 use std::alloc::Global;
 use std::mem::replace;
-
-/// The place of a directive.
-fn place_of(placed: &Placed<ApartDirective<'_>>) -> Place
-    ensures { result ≡ spec.place_of placed.now }
-{
-    Place {
-        file: placed.file as usize,
-        line: placed.item.get().line as usize,
-    }
-}
 
 /// What is known of all that was booked so far. What is booked itself is handed over.
 pub(crate) struct Booker<'a> {
@@ -109,18 +100,21 @@ impl<'a> Booker<'a> {
         }
     }
 
-    /// Books the postings of a transaction.
+    /// Books the postings of a transaction with these written ones, and gives them back.
     fn keep(
         &mut self,
-        written: Written<'a>,
+        written: &Written<'a>,
+        postings: &[WrittenPosting<'a>],
         tried: Tried<'a>,
-    ) -> Result<Option<Draft<'a>>, Refusal<BookCause>>
+    ) -> Result<Option<List<Posted<'a>>>, Refusal<BookCause>>
         requires stands { Stands self.old }
-        requires light { AllByRecursion IsLight (booked_legs written.transaction.postings tried.posted) }
-        requires balances { KnowsBalance written.transaction.postings tried }
-        ensures standing { Wherever self.old (λ m past st. IfOk result (λ booked.
-            IsBehind m past st (after_trial past st written.entry (Ok tried.entry.posted)) booked
-            self.new)) }
+        requires own { postings.now ≡ written.now.transaction.postings }
+        requires light { AllByRecursion IsLight
+            (booked_legs written.now.transaction.postings tried.posted) }
+        requires balances { KnowsBalance written.now.transaction.postings tried }
+        ensures standing { Wherever self.old (λ m past st. IfOk result (λ postings.
+            IsBehind m past st (after_trial past st written.now (Ok tried.entry.posted))
+            (draft_of written.now postings) self.new)) }
         ensures asks { OnOk result (asks self.new ≡ asks self.old) }
         ensures full { result ≡ prelude.Err (Refusal.Refused BookCause.TooManyPostings)
             → MOST_POSTINGS < additions_in self.old.holdings + length tried.entry.posted }
@@ -129,7 +123,6 @@ impl<'a> Booker<'a> {
             return Err(Refusal::Refused(BookCause::TooManyPostings));
         }
         let at = written.place();
-        let postings = written.transaction().postings.as_slice();
         note_balance(&mut self.scales, &mut self.faults, at, postings, &tried)?;
         let mut posted = tried.posted.into_vec();
         book_postings(
@@ -142,10 +135,7 @@ impl<'a> Booker<'a> {
             posted.as_mut_slice(),
         )?;
         show_watched(self.watched, &mut self.padder, posted.as_slice())?;
-        Ok(Some(Draft::Transaction(Kept {
-            written,
-            postings: List::new(posted),
-        })))
+        Ok(Some(List::new(posted)))
     }
 
     /// Adds the fault with which a transaction is dropped.
@@ -153,10 +143,10 @@ impl<'a> Booker<'a> {
         &mut self,
         written: &Written<'a>,
         fault: LineFault,
-    ) -> Result<Option<Draft<'a>>, Refusal<BookCause>>
-        ensures standing { Wherever self.old (λ m past st. IfOk result (λ booked.
-            IsBehind m past st (after_trial past st written.now (prelude.Err fault)) booked
-            self.new)) }
+    ) -> Result<Option<List<Posted<'a>>>, Refusal<BookCause>>
+        ensures standing { Wherever self.old (λ m past st. IfOk result (λ postings.
+            IsBehind m past st (after_trial past st written.now (prelude.Err fault))
+            (draft_of written.now postings) self.new)) }
         ensures asks { OnOk result (asks self.new ≡ asks self.old) }
         ensures full { result ≢ prelude.Err (Refusal.Refused BookCause.TooManyPostings) }
     {
@@ -170,24 +160,29 @@ impl<'a> Booker<'a> {
         Ok(None)
     }
 
-    /// Books a transaction, or drops it with its fault.
-    fn transaction(&mut self, written: Written<'a>) -> Result<Option<Draft<'a>>, Refusal<BookCause>>
+    /// The postings that a transaction is booked as, or none where it is dropped with its fault.
+    pub(crate) fn book(
+        &mut self,
+        written: &Written<'a>,
+    ) -> Result<Option<List<Posted<'a>>>, Refusal<BookCause>>
         requires { Stands self.old }
-        ensures standing { Wherever self.old (λ m past st. IfOk result (λ booked.
+        ensures standing { Wherever self.old (λ m past st. IfOk result (λ postings.
             (r : prelude.Result (prelude.List declared.Posted) trials.LineFault)
-            × Tries (setting_of m st written.entry) written.entry.transaction.postings r
-            × IsBehind m past st (after_trial past st written.entry r) booked self.new)) }
+            × Tries (setting_of m st written.now) written.now.transaction.postings r
+            × IsBehind m past st (after_trial past st written.now r) (draft_of written.now postings)
+            self.new)) }
         ensures asks { OnOk result (asks self.new ≡ asks self.old) }
         ensures full { result ≡ prelude.Err (Refusal.Refused BookCause.TooManyPostings)
             → Wherever self.old (λ m past st.
             (r : prelude.Result (prelude.List declared.Posted) trials.LineFault)
-            → Tries (setting_of m st written.entry) written.entry.transaction.postings r
-            → IsFull (after_trial past st written.entry r)) }
+            → Tries (setting_of m st written.now) written.now.transaction.postings r
+            → IsFull (after_trial past st written.now r)) }
     {
         let head = Head {
             day: written.day(),
             line: written.place().line,
         };
+        let postings = written.transaction().postings.as_slice();
         let spare = replace(&mut self.spare, Vec::new(self.alloc));
         let weighs = self.faults.is_kept();
         match try_transaction(
@@ -197,30 +192,30 @@ impl<'a> Booker<'a> {
             &mut self.scales,
             spare,
             head,
-            written.transaction().postings.as_slice(),
+            postings,
             weighs,
         ) {
-            Ok(tried) => self.keep(written, tried),
-            Err(Refusal::Refused(fault)) => self.drop_with(&written, fault),
+            Ok(tried) => self.keep(written, postings, tried),
+            Err(Refusal::Refused(fault)) => self.drop_with(written, fault),
             Err(Refusal::OutOfMemory) => Err(Refusal::OutOfMemory),
         }
     }
 
-    /// Takes a directive that is no transaction.
-    fn take_other(
+    /// Takes a directive that is no transaction, and tells whether it is a pad.
+    pub(crate) fn take_other(
         &mut self,
         day: Day,
         place: Place,
         kind: &DirectiveKind<'a>,
-    ) -> Result<Option<Draft<'a>>, Refusal<BookCause>>
+    ) -> Result<bool, Refusal<BookCause>>
         requires stands { Stands self.old }
         requires watched { is_watching kind.now ≡ true → self.old.watched ≡ true }
         requires other { (t : transactions.Transaction) → kind.now ≢ kinds.Transaction t }
         ensures standing { Wherever self.old (λ m past st.
             (d : places.Placed directives.Directive) → d.item.day ≡ day → spec.place_of d ≡ place
-            → d.item.kind ≡ kind.now → IfOk result (λ booked. (new : Stand)
+            → d.item.kind ≡ kind.now → IfOk result (λ is_pad. (new : Stand)
             × IsStepBy m past st d d.item.kind new
-            × IsBehind m (d ∷ past) st new booked self.new)) }
+            × IsBehind m (d ∷ past) st new (pad_if is_pad) self.new)) }
         ensures asks { OnOk result (asks self.new ≡ asks self.old) }
         ensures full { result ≢ prelude.Err (Refusal.Refused BookCause.TooManyPostings) }
     {
@@ -233,11 +228,11 @@ impl<'a> Booker<'a> {
                     place,
                     open,
                 )?;
-                Ok(None)
+                Ok(false)
             }
             DirectiveKind::Close(close) => {
                 take_close(&mut self.accounts, &mut self.faults, place, close)?;
-                Ok(None)
+                Ok(false)
             }
             DirectiveKind::Pad(pad) => {
                 take_pad(
@@ -248,7 +243,7 @@ impl<'a> Booker<'a> {
                     place,
                     pad,
                 )?;
-                Ok(Some(Draft::Pad))
+                Ok(true)
             }
             DirectiveKind::Balance(balance) => {
                 take_balance(
@@ -260,46 +255,19 @@ impl<'a> Booker<'a> {
                     place,
                     balance.get(),
                 )?;
-                Ok(None)
+                Ok(false)
             }
-            _ => Ok(None),
+            _ => Ok(false),
         }
     }
 
-    /// Takes the next directive, and gives what is booked of it.
-    pub(crate) fn take(
-        &mut self,
-        placed: Placed<ApartDirective<'a>>,
-    ) -> Result<Option<Draft<'a>>, Refusal<BookCause>>
-        requires stands { Stands self.old }
-        requires watched { IsWatched self.old.watched placed }
-        ensures standing { Wherever self.old (λ m past st. IfOk result (λ booked. (new : Stand)
-            × IsStepBy m past st placed.entry placed.entry.item.kind new
-            × IsBehind m (placed.entry ∷ past) st new booked self.new)) }
-        ensures asks { OnOk result (asks self.new ≡ asks self.old) }
-        ensures full { result ≡ prelude.Err (Refusal.Refused BookCause.TooManyPostings)
-            → Wherever self.old (λ m past st. (new : Stand)
-            → IsStepBy m past st placed.entry placed.entry.item.kind new → IsFull new) }
-    {
-        match Written::of(placed) {
-            Ok(written) => self.transaction(written),
-            Err(other) => {
-                let place = place_of(&other);
-                let directive = other.item.get();
-                self.take_other(directive.day, place, &directive.kind)
-            }
-        }
-    }
-
-    /// Takes back what was booked of a directive, once it is handed over: the next transaction is
-    /// booked in its memory. The directive is given up, and what is made of the next comes to lie there.
-    pub(crate) fn reuse(&mut self, booked: Option<Draft<'a>>)
+    /// Takes back a transaction that is kept, once it is handed over: the next is booked in its
+    /// memory. The directive is given up, and what is made of the next comes to lie there.
+    pub(crate) fn reuse(&mut self, kept: Kept<'a>)
         ensures standing { Wherever self.old (λ m past st. IsStanding m past st self.new) }
         ensures asks { asks self.new ≡ asks self.old }
     {
-        if let Some(Draft::Transaction(kept)) = booked {
-            self.spare = kept.postings.into_vec();
-        }
+        self.spare = kept.postings.into_vec();
     }
 
     /// What it has found: the pads and balances, and the faults. What only served to find it is

@@ -29,9 +29,8 @@
 //!
 //! # Cost
 //!
-//! What the trials cost, and for each posting, pad and balance a few look-ups by names. Transactions
-//! that were handed over wait until 8,192 of at most 8 postings are given up together, in some 8 MB at
-//! most.
+//! What the trials cost, and for each posting, pad and balance a few look-ups by names. A transaction
+//! that was handed over is given up at once, and the next is booked in the memory of its postings.
 #![tactic(auto)]
 
 mod accounts;

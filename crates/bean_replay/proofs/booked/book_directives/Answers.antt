@@ -1,12 +1,10 @@
-use Rattle.std.proofs.Common.{◌≡◌, ◌≤◌, ℕ, List, length, reverse, ap, arith, refl, sym, ◌∙◌, subst}
+use Rattle.std.proofs.Common.{◌≤◌, length, reverse, ap, arith, refl, sym, ◌∙◌, subst}
 use Rattle.std.proofs.lemmas.Result.{IfOk-weaker}
 use Rattle.std.specs.List.{AllByRecursion}
 use Rattle.limits.specs.declared.counts.TheConstants.{MOST_POSTINGS}
 use Rattle.bean_loaded.specs.Limited.{IsSmall}
 use Rattle.bean_accounts.proofs.LogFacts.{asked_as_before}
-use Rattle.bean_accounts.specs.Methods.{method_in}
 use Rattle.bean_replay.specs.Booked.{IsBooked, IsFinished, method_in_ledger}
-use Rattle.bean_replay.specs.Method as spec
 use Rattle.bean_replay.specs.Small.{IsSmallNoted}
 use Rattle.bean_replay.specs.Stand.{LeadsTo}
 use Rattle.bean_replay.proofs.SmallBookedFacts.{pads_are_small}
@@ -31,12 +29,8 @@ pub returns-in-Ok-clause-booked : goal.returns-in-Ok-clause-booked
 returns-in-Ok-clause-booked g c =
     let l = c.args.loaded in
     let m = method_in_ledger l in
-    let ds = c.directives-directives.ensures.directives in
     let own = c.into_directives.ensures.directives in
-    let otherwise = c.otherwise.ensures ∙ ap spec.otherwise c.methods.ensures in
-    let methods : (a : List ℕ) → m a ≡ method_in c.in_ok-methods.methods a = λ a.
-    sym (c.in_ok-methods.ensures a ∙ (λ k. spec.method_of (otherwise k) (ds k) a)) in
-    let all = c.in-Ok.ensures.leads m methods in
+    let all = c.in-Ok.ensures.leads m c.in_ok-methods.ensures.methods in
     let led = all.1 in
     let before = c.args.faults in
     IfOk-weaker c.finish.result (IsFinished g.S.Bookings before l all.0) (IsBooked g.S.Bookings before l)
@@ -46,8 +40,8 @@ returns-in-Ok-clause-booked g c =
       few = subst (λ n. n ≤ MOST_POSTINGS) led.stands.count led.stands.room.few;
       finished = finished;
     })
-    (c.finish.ensures.booked l before c.in_ok-note_before.ensures
-    (c.in-Ok.ensures.asked ∙ asked_as_before before _ _ c.in_ok-note_before.ensures) m
+    (c.finish.ensures.booked l before c.in_ok-methods.ensures.faults
+    (c.in-Ok.ensures.asked ∙ asked_as_before before _ _ c.in_ok-methods.ensures.faults) m
     (reverse c.into_directives.result.items) all.0 led)
 
 pub returns-in-Ok-clause-small : goal.returns-in-Ok-clause-small
@@ -58,5 +52,5 @@ returns-in-Ok-clause-small g c =
     (λ b booked.
     subst (AllByRecursion IsSmallNoted) (sym booked.finished.pads_are)
     (pads_are_small (method_in_ledger l) l.directives booked.stand booked.leads
-    c.directives-directives.ensures.small))
+    c.into_directives.ensures.small))
     (returns-in-Ok-clause-booked g c)

@@ -1,58 +1,47 @@
-use Rattle.std.proofs.Common.{◌∷◌, ◌≤◌, Err, ap, length, refl, subst, sym}
-use Rattle.std.specs.List.{AllByRecursion}
-use Rattle.limits.specs.declared.counts.TheConstants.{MOST_POSTINGS}
-use Rattle.bean_replay.specs.Booker.{drafts_in}
-use Rattle.bean_replay.specs.Small.{IsSmallDraft}
-use Rattle.bean_replay.specs.Stand.{postings_of}
-use Rattle.bean_replay.proofs.FullFacts.{fault_of}
-use Rattle.bean_replay.proofs.SmallBookedFacts.{stand_small}
-use Rattle.bean_replay.proofs.SmallListFacts.{all_behind}
+use Rattle.std.proofs.Common.{◌∷◌, OnOk, refl, subst, sym}
+use Rattle.bean_replay.specs.Booker.{IsLed}
+use Rattle.bean_replay.specs.Stand.{Stand}
+use Rattle.bean_replay.specs.Watched.{IsWatched}
 use Rattle.bean_replay.proofs.handed.take_into.Goals as goal
 
-pub take-requires : goal.take-requires
-take-requires g c =
-    let z = c.requires.stands in record {
-      stands = record {
-        method_of = z.0;
-        past = z.1;
-        stand = z.2;
-        is = z.3.stands;
-        few = z.5;
-      };
-      watched = c.requires.watched;
-    }
+pub take_transaction-requires : goal.take_transaction-requires
+take_transaction-requires g c = λ k.
+    let z = c.requires.stands in (
+      (refl, tt),
+      (z.0, z.1, z.2, z.3, c.args.placed, c.in-Ok.ensures.transaction, z.4, z.5),
+    )
 
-pub hand_over-requires : goal.hand_over-requires
-hand_over-requires g c = λ k.
-    let z = c.requires.stands in
-    let d = c.args.placed in
-    let next = c.in-Ok.ensures.standing z.0 z.1 z.2 z.3.stands in
-    let small = stand_small z.0 (d ∷ z.1) next.0 (z.2, z.3.leads, next.1) z.4 in (
+pub take_other-requires : goal.take_other-requires
+take_other-requires g c = λ k.
+    let z = c.requires.stands in (
       (refl, tt),
       (
-        all_behind IsSmallDraft z.2.drafts (drafts_in c.in-Ok.booked)
-            (subst (AllByRecursion IsSmallDraft) next.2.adds small.0),
+        record {
+          method_of = z.0;
+          past = z.1;
+          stand = z.2;
+          is = z.3.stands;
+          few = z.5;
+        },
         (
-          z.2.drafts,
-          z.3.taken,
-          subst (λ l. length (postings_of l) ≤ MOST_POSTINGS) next.2.adds
-              (subst (λ n. n ≤ MOST_POSTINGS) next.2.stands.count next.2.stands.room.few),
+          subst (IsWatched c.args.booker.now.watched) (sym c.in-Err.ensures.same) c.requires.watched,
+          c.in-Err.ensures.other,
         ),
       ),
     )
 
-pub returns-in_ok-hand_over-in-Ok-clause-led : goal.returns-in_ok-hand_over-in-Ok-clause-led
-returns-in_ok-hand_over-in-Ok-clause-led g c = λ m past st led.
-    let next = c.in-Ok.ensures.standing m past st led.stands in (
-      next.0,
-      record {
-        leads = (st, led.leads, next.1);
-        stands = c.reuse.ensures.standing m (c.args.placed ∷ past) next.0 next.2.stands;
-        taken = subst (λ l. g.S.Bookings.has_taken c.hand_over.new.to l) (sym next.2.adds)
-            (c.in_ok-hand_over-in-Ok.ensures st.drafts led.taken);
-      },
-    )
+pub returns-in-Ok-clause-led : goal.returns-in-Ok-clause-led
+returns-in-Ok-clause-led g c = λ m past st led.
+    c.take_transaction.ensures.led m past st led c.args.placed c.in-Ok.ensures.transaction
 
-pub returns-in-Err-clause-full : goal.returns-in-Err-clause-full
-returns-in-Err-clause-full g c = λ is_full m past st led new step.
-    c.in-Err.ensures.full (ap Err (ap fault_of is_full)) m past st led.stands new step
+pub returns-in-Err-clause-led : goal.returns-in-Err-clause-led
+returns-in-Err-clause-led g c = λ m past st led.
+    subst
+    (λ d. OnOk c.take_other.result
+    ((new : Stand) × IsLed g.S.Bookings m (d ∷ past) new c.take_other.new.booker c.take_other.new.to))
+    c.in-Err.ensures.same (c.take_other.ensures.led m past st led)
+
+pub returns-in-Ok-clause-full : goal.returns-in-Ok-clause-full
+returns-in-Ok-clause-full g c = λ is_full m past st led new step.
+    c.take_transaction.ensures.full is_full m past st led c.args.placed c.in-Ok.ensures.transaction
+    new step

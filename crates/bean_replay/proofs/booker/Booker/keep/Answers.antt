@@ -6,7 +6,6 @@ use Rattle.bean_accounts.specs.Faults.{faults_at, kind_if}
 use Rattle.bean_accounts.specs.Log.{asked_for, is_kept, with_found}
 use Rattle.bean_base.specs.declared.fault.FaultKind.TheVariants as kinds
 use Rattle.bean_base.specs.declared.span.Place.{Place}
-use Rattle.bean_directives.specs.declared.transaction.Transaction.{Transaction}
 use Rattle.bean_interp.specs.Balance.{is_balanced}
 use Rattle.bean_pad.specs.Following.{Follows}
 use Rattle.bean_postings.specs.declared.posting.Posting.{Posting}
@@ -43,7 +42,7 @@ show_watched-requires-clause-few c =
 pub returns-clause-standing : goal.returns-clause-standing
 returns-clause-standing c = λ m past st is.
     let b = c.args.self.now in
-    let w = c.args.written in
+    let w = c.args.written.now in
     let there = c.place-at.ensures in
     let posted : List Posted = c.args.tried.posted in
     let one : Draft = draft.Transaction (record { written = w; postings = posted }) in
@@ -53,9 +52,7 @@ returns-clause-standing c = λ m past st is.
     c.as_mut_slice.result.now c.book_postings.new.posted posted c.as_mut_slice.ensures.len
     c.in_ok-book_postings.ensures.posted lent in
     let shown = c.as_slice-2.ensures.value ∙ back in
-    let written =
-    c.as_slice-postings.ensures
-    ∙ ap (λ (t : Transaction). t.postings) c.transaction.ensures in
+    let written = c.requires.own in
     let count = count_more st.drafts one in
     let added = c.in_ok-book_postings.ensures.additions in
     let before = is.count in
