@@ -25,7 +25,7 @@ use bql_code::Pool;
 use bql_plan::{Numbering, numbered};
 use bql_types::Typed;
 use limits::{Bounds, LONGEST_SECTION, MOST_ITEMS};
-use query_code::{Code, Constant, Mode, Parts, Program};
+use query_code::{Code, Constant, Mode, Output, Parts, Program};
 use refusals::Refusal;
 use std::alloc::{AllocError, Global};
 
@@ -141,6 +141,23 @@ fn mode_of(is_aggregating: bool) -> Mode
     }
 }
 
+/// The parts of a program, with these bounds.
+fn parts_of<'a>(bounds: &Bounds, mode: Mode, output: Output<'a>, code: Code<'a>) -> Parts<'a>
+    ensures { result ≡ record {
+      bounds = bounds.now;
+      mode = mode;
+      output = output.entry;
+      code = code.entry;
+    } }
+{
+    Parts {
+        bounds: *bounds,
+        mode,
+        output,
+        code,
+    }
+}
+
 /// The program of a query that has a type, with its bounds.
 pub fn compile<'a>(
     alloc: Global,
@@ -167,12 +184,8 @@ pub fn compile<'a>(
         Err(refusal) => return Err(refusal),
     };
     let output = output_of(alloc, typed.query, &numbering)?;
+    let mode = mode_of(numbering.grouping.is_aggregating);
     Ok(Program {
-        parts: Parts {
-            bounds: typed.bounds,
-            mode: mode_of(numbering.grouping.is_aggregating),
-            output,
-            code,
-        },
+        parts: parts_of(&typed.bounds, mode, output, code),
     })
 }
