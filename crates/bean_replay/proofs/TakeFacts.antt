@@ -1,6 +1,6 @@
 -- One more directive.
 use Rattle.std.proofs.Common.{◌≡◌, ℕ, suc, ◌+◌, List, [], ◌∷◌, ◌++◌, length}
-use Rattle.std.proofs.Common.{Option, Result, refl, sym, ap, ◌∙◌, subst, arith}
+use Rattle.std.proofs.Common.{None, Option, Result, refl, sym, ap, ◌∙◌, subst, arith}
 use Rattle.std.specs.declared.vec.Vec.{Vec}
 use Rattle.std.specs.declared.alloc.Global.{Global}
 use Rattle.bean_accounts.specs.Kept.{IsKept}
@@ -21,7 +21,7 @@ use Rattle.bean_reductions.specs.declared.reduction.Method.{Method}
 use Rattle.bean_transactions.specs.Lines.{IsSettled}
 use Rattle.bean_transactions.specs.Tried.{Tries}
 use Rattle.bean_transactions.specs.declared.stop.LineFault.{LineFault}
-use Rattle.bean_replay.specs.Booker.{HasRoom, IsBehind, IsStanding, IsWritten}
+use Rattle.bean_replay.specs.Booker.{HasRoom, IsBehind, IsStanding, IsWritten, pad_in}
 use Rattle.bean_replay.specs.Stand.{IsFull, IsStepBy, Stand, account_step, account_steps}
 use Rattle.bean_replay.specs.Stand.{after_trial, setting_of, written_in}
 use Rattle.bean_replay.specs.declared.booker.Booker.{Booker}
@@ -148,3 +148,18 @@ other m past st d (kind.Price x) ht ho hc hp hb = (refl, refl)
 other m past st d (kind.Event x) ht ho hc hp hb = (refl, refl)
 other m past st d (kind.Query x) ht ho hc hp hb = (refl, refl)
 other m past st d (kind.Custom x) ht ho hc hp hb = (refl, refl)
+
+-- a directive that is no pad hands none over
+pub no_pad : (k : DirectiveKind) → ((p : pads.Pad) → ¬ (k ≡ kind.Pad p)) → pad_in k ≡ None
+no_pad (kind.Pad p) h = absurd (h p refl)
+no_pad (kind.Transaction x) h = refl
+no_pad (kind.Open x) h = refl
+no_pad (kind.Close x) h = refl
+no_pad (kind.Balance x) h = refl
+no_pad (kind.Commodity x) h = refl
+no_pad (kind.Note x) h = refl
+no_pad (kind.Document x) h = refl
+no_pad (kind.Price x) h = refl
+no_pad (kind.Event x) h = refl
+no_pad (kind.Query x) h = refl
+no_pad (kind.Custom x) h = refl

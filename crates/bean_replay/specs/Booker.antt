@@ -5,6 +5,7 @@ use Rattle.limits.specs.declared.counts.TheConstants.{MOST_POSTINGS}
 use Rattle.bean_accounts.specs.Kept as accounts
 use Rattle.bean_accounts.specs.Log.{asked_for, is_kept}
 use Rattle.bean_directives.specs.declared.directive.Directive.{Directive}
+use Rattle.bean_directives.specs.declared.directive.DirectiveKind.{DirectiveKind}
 use Rattle.bean_directives.specs.declared.directive.DirectiveKind.TheVariants as kind
 use Rattle.bean_directives.specs.declared.transaction.Transaction.{Transaction}
 use Rattle.bean_loaded.specs.declared.placed.Placed.{Placed}
@@ -74,10 +75,10 @@ drafts_in (Some d) = d ∷ []
 abbrev pub IsWritten : Placed Directive → Written → Type 0
 IsWritten d w = (t : Transaction) × (d.item.kind ≡ kind.Transaction t) × (w ≡ written_in d t)
 
--- the place of a pad, if it is one
-abbrev pub pad_if : Bool → Option Draft
-pad_if true = Some draft.Pad
-pad_if false = None
+-- the place of a pad, if a directive is one
+abbrev pub pad_in : DirectiveKind → Option Draft
+pad_in (kind.Pad p) = Some draft.Pad
+pad_in other = None
 
 -- a transaction, with the postings that it is booked as if it is kept
 abbrev pub draft_of : Written → Option (List Posted) → Option Draft

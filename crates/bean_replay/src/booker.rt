@@ -5,7 +5,7 @@ ghost use Rattle.std.specs.List.{AllByRecursion};
 ghost use Rattle.limits.specs.declared.counts.TheConstants.{MOST_POSTINGS};
 ghost use Rattle.bean_accounts.specs.Log.{is_kept};
 ghost use Rattle.bean_replay.specs.Booker.{IsBehind, IsStanding, Stands, Wherever, asks};
-ghost use Rattle.bean_replay.specs.Booker.{draft_of, pad_if};
+ghost use Rattle.bean_replay.specs.Booker.{draft_of, pad_in};
 ghost use Rattle.bean_replay.specs.Stand as spec;
 ghost use Rattle.bean_replay.specs.Stand.{IsFull, IsStepBy, Stand, after_trial, setting_of, start};
 ghost use Rattle.bean_replay.specs.Watched.{is_watching};
@@ -34,7 +34,7 @@ use bean_holdings::{Holdings, Posted};
 use bean_interp::Scales;
 use bean_pad::Padder;
 use bean_postings::WrittenPosting;
-use bean_transactions::{Head, LineFault, Tried, try_transaction};
+use bean_transactions::{Head, LineFault, Tried, Weighing, try_transaction};
 use limits::MOST_POSTINGS;
 use refusals::Refusal;
 use std::alloc::Global;
@@ -97,6 +97,15 @@ impl<'a> Booker<'a> {
             padder: Padder::new(alloc),
             watched,
             faults: asked.emptied(alloc),
+        }
+    }
+
+    /// Where faults are kept, it is asked of each transaction whether it balances.
+    fn weighing(&self) -> Weighing {
+        if self.faults.is_kept() {
+            Weighing::Always
+        } else {
+            Weighing::WhereNeeded
         }
     }
 
@@ -184,7 +193,7 @@ impl<'a> Booker<'a> {
         };
         let postings = written.transaction().postings.as_slice();
         let spare = replace(&mut self.spare, Vec::new(self.alloc));
-        let weighs = self.faults.is_kept();
+        let weighing = self.weighing();
         match try_transaction(
             self.alloc,
             &self.holdings,
@@ -193,7 +202,7 @@ impl<'a> Booker<'a> {
             spare,
             head,
             postings,
-            weighs,
+            weighing,
         ) {
             Ok(tried) => self.keep(written, postings, tried),
             Err(Refusal::Refused(fault)) => self.drop_with(written, fault),
@@ -201,21 +210,21 @@ impl<'a> Booker<'a> {
         }
     }
 
-    /// Takes a directive that is no transaction, and tells whether it is a pad.
+    /// Takes a directive that is no transaction. The place of a pad is still to be handed over.
     pub(crate) fn take_other(
         &mut self,
         day: Day,
         place: Place,
         kind: &DirectiveKind<'a>,
-    ) -> Result<bool, Refusal<BookCause>>
+    ) -> Result<(), Refusal<BookCause>>
         requires stands { Stands self.old }
         requires watched { is_watching kind.now ≡ true → self.old.watched ≡ true }
         requires other { (t : transactions.Transaction) → kind.now ≢ kinds.Transaction t }
         ensures standing { Wherever self.old (λ m past st.
             (d : places.Placed directives.Directive) → d.item.day ≡ day → spec.place_of d ≡ place
-            → d.item.kind ≡ kind.now → IfOk result (λ is_pad. (new : Stand)
+            → d.item.kind ≡ kind.now → OnOk result ((new : Stand)
             × IsStepBy m past st d d.item.kind new
-            × IsBehind m (d ∷ past) st new (pad_if is_pad) self.new)) }
+            × IsBehind m (d ∷ past) st new (pad_in kind.now) self.new)) }
         ensures asks { OnOk result (asks self.new ≡ asks self.old) }
         ensures full { result ≢ prelude.Err (Refusal.Refused BookCause.TooManyPostings) }
     {
@@ -228,11 +237,11 @@ impl<'a> Booker<'a> {
                     place,
                     open,
                 )?;
-                Ok(false)
+                Ok(())
             }
             DirectiveKind::Close(close) => {
                 take_close(&mut self.accounts, &mut self.faults, place, close)?;
-                Ok(false)
+                Ok(())
             }
             DirectiveKind::Pad(pad) => {
                 take_pad(
@@ -243,7 +252,7 @@ impl<'a> Booker<'a> {
                     place,
                     pad,
                 )?;
-                Ok(true)
+                Ok(())
             }
             DirectiveKind::Balance(balance) => {
                 take_balance(
@@ -255,9 +264,9 @@ impl<'a> Booker<'a> {
                     place,
                     balance.get(),
                 )?;
-                Ok(false)
+                Ok(())
             }
-            _ => Ok(false),
+            _ => Ok(()),
         }
     }
 

@@ -7,8 +7,7 @@ use bean_pad::NotedPad;
 /// A transaction that is kept.
 #[derive(Drop)]
 pub struct Kept<'a> {
-    /// In the memory of its directive. So no hole is left between the postings of transactions that
-    /// wait to be given up together, in which what is booked would come to lie.
+    /// In the memory of its directive.
     pub written: Written<'a>,
     /// The postings that it is booked as.
     pub postings: List<Posted<'a>>,

@@ -10,7 +10,7 @@ ghost use Rattle.bean_loaded.specs.Limited.{IsSmall};
 ghost use Rattle.bean_loaded.specs.declared.placed.Placed as places;
 ghost use Rattle.bean_reductions.specs.declared.reduction.Method.{Method};
 ghost use Rattle.bean_replay.specs.Booker.{IsLed, IsStanding, IsWritten, Stands, Wherever, asks};
-ghost use Rattle.bean_replay.specs.Booker.{draft_of, drafts_in, pad_if};
+ghost use Rattle.bean_replay.specs.Booker.{draft_of, drafts_in, pad_in};
 ghost use Rattle.bean_replay.specs.Small.{IsSmallDraft};
 ghost use Rattle.bean_replay.specs.Stand as spec;
 ghost use Rattle.bean_replay.specs.Stand.{IsFull, IsStepBy, Stand, postings_of};
@@ -23,7 +23,7 @@ use crate::bookings::Bookings;
 use crate::cause::BookCause;
 use crate::written::Written;
 use bean_base::{List, Place};
-use bean_directives::ApartDirective;
+use bean_directives::{ApartDirective, DirectiveKind};
 use bean_holdings::Posted;
 use bean_loaded::Placed;
 use refusals::Refusal;
@@ -85,15 +85,15 @@ fn take_transaction<'a, S: Bookings<'a>>(
     }
 }
 
-/// Hands over the place of a pad, if it is one.
-fn hand_pad<'a, S: Bookings<'a>>(to: &mut S, is_pad: bool) -> Result<(), AllocError>
+/// Hands over the place of a directive, if it is a pad.
+fn hand_pad<'a, S: Bookings<'a>>(to: &mut S, kind: &DirectiveKind<'a>) -> Result<(), AllocError>
     ensures { (ds : List drafts.Draft) → S.has_taken to.old ds
-        → OnOk result (S.has_taken to.new (ds ++ drafts_in (pad_if is_pad))) }
+        → OnOk result (S.has_taken to.new (ds ++ drafts_in (pad_in kind.now))) }
 {
-    if !is_pad {
-        return Ok(());
+    match kind {
+        DirectiveKind::Pad(_) => to.pad(),
+        _ => Ok(()),
     }
-    to.pad()
 }
 
 /// The place of a directive.
@@ -123,8 +123,8 @@ fn take_other<'a, S: Bookings<'a>>(
     ensures full { result ≢ prelude.Err (Refusal.Refused BookCause.TooManyPostings) }
 {
     let directive = placed.item.get();
-    let is_pad = booker.take_other(directive.day, place_of(placed), &directive.kind)?;
-    hand_pad(to, is_pad)?;
+    booker.take_other(directive.day, place_of(placed), &directive.kind)?;
+    hand_pad(to, &directive.kind)?;
     Ok(())
 }
 

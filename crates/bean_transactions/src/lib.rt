@@ -9,7 +9,8 @@
 //! let mut holdings = Holdings::new(alloc);        // Assets:Shares has lots of 10 at 100 USD and
 //! let mut scales = Scales::new(alloc);            // of 5 at 110 USD
 //! let head = Head { day: parse_day("2014-02-01")?, line: 7 };
-//! match try_transaction(alloc, &holdings, &methods, &mut scales, spare, head, postings, true) {
+//! let weighing = Weighing::Always;
+//! match try_transaction(alloc, &holdings, &methods, &mut scales, spare, head, postings, weighing) {
 //!     // -10 X at 100 USD, -2 X at 110 USD, 1300.00 USD, and -80.00 USD for Income:Gain
 //!     Ok(tried) => book(tried.posted),
 //!     Err(Refusal::Refused(fault)) => report(fault),
@@ -79,4 +80,4 @@ pub use legs::whole;
 pub use line::{Line, Tried};
 pub use setting::Head;
 pub use stop::LineFault;
-pub use trial::{balances, try_transaction};
+pub use trial::{Weighing, balances, try_transaction};

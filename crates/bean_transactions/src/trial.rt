@@ -86,6 +86,15 @@ fn try_lines<'a>(
     }
 }
 
+/// Whether a transaction is weighed where it can be booked without that.
+#[derive(Clone, Copy)]
+pub enum Weighing {
+    /// So that it is known whether it balances.
+    Always,
+    /// Not where its weights are in range whatever they are: nobody asks whether it balances.
+    WhereNeeded,
+}
+
 /// So many light weights are in range, whatever they are.
 const FEW: usize = 1_000_000_000;
 
@@ -100,7 +109,7 @@ pub fn try_transaction<'a>(
     spare: Vec<Posted<'a>>,
     head: Head,
     postings: &[WrittenPosting<'a>],
-    weighs: bool,
+    weighing: Weighing,
 ) -> Result<Tried<'a>, Refusal<LineFault>>
     requires bounded { IsBounded holdings.now }
     requires few { additions_in holdings.now ≤ 2 ^ 40 }
@@ -111,7 +120,8 @@ pub fn try_transaction<'a>(
     let posted = bare_front(spare, postings)?;
     let (_, rest) = postings.split_at(posted.len());
     // Bare ones weigh what their units are: where they are few, they aren't weighed for their width.
-    if !weighs && posted.len() == postings.len() && posted.len() <= FEW {
+    let is_needed = matches!(weighing, Weighing::Always);
+    if !is_needed && posted.len() == postings.len() && posted.len() <= FEW {
         return Ok(Tried {
             posted: List::new(posted),
             balances: None,

@@ -7,7 +7,7 @@ returns-clause-led g c = λ m past st led.
     let d = c.args.placed.now in
     let same = sym c.get-directive.ensures in
     let next =
-    c.in_ok-is_pad.ensures.standing m past st led.stands d (ap (λ (i : Directive). i.day) same)
+    c.in_ok-take_other.ensures.standing m past st led.stands d (ap (λ (i : Directive). i.day) same)
     (sym c.place_of.ensures) (ap (λ (i : Directive). i.kind) same) in (
       next.0,
       record {

@@ -12,13 +12,14 @@ use Rattle.bean_holdings.specs.Held.{held}
 use Rattle.bean_directives.specs.declared.numbers.Balance.{Balance}
 use Rattle.bean_holdings.specs.Holdings.{AreHeld, holding}
 use Rattle.bean_holdings.proofs.LotFacts.{lot_among_lots}
+use Rattle.bean_replay.specs.Booker.{drafts_in, pad_in}
 use Rattle.bean_replay.specs.Stand.{IsStepBy, account_step, account_steps}
 use Rattle.bean_replay.specs.Stand.{place_of, postings_of, steps_of_postings}
 use Rattle.bean_replay.specs.Stand.{with_balance, with_faults, with_pad}
 use Rattle.bean_replay.specs.Watched.{is_watching, unseen_of}
 use Rattle.bean_replay.specs.declared.booking.Draft.TheVariants as draft
 use Rattle.bean_replay.proofs.ShownFacts.{count_more, postings_more}
-use Rattle.bean_replay.proofs.TakeFacts.{later, other}
+use Rattle.bean_replay.proofs.TakeFacts.{later, no_pad, other}
 use Rattle.bean_replay.proofs.booker.Booker.take_other.Goals as goal
 
 pub returns-in_ok-take_open-in-Open-clause-standing :
@@ -54,7 +55,8 @@ returns-in_ok-take_open-in-Open-clause-standing c = λ m past st is d same_day f
             steps = let few = is.room.steps in omega (arith, few);
           };
         };
-        adds = sym (append-nil st.drafts);
+        adds = subst (λ k. st.drafts ≡ st.drafts ++ drafts_in (pad_in k)) (sym c.in-Open.is)
+            (sym (append-nil st.drafts));
       },
     )
 
@@ -91,7 +93,8 @@ returns-in_ok-take_close-in-Close-clause-standing c = λ m past st is d same_day
             steps = let few = is.room.steps in omega (arith, few);
           };
         };
-        adds = sym (append-nil st.drafts);
+        adds = subst (λ k. st.drafts ≡ st.drafts ++ drafts_in (pad_in k)) (sym c.in-Close.is)
+            (sym (append-nil st.drafts));
       },
     )
 
@@ -158,7 +161,8 @@ returns-in_ok-take_pad-in-Pad-clause-standing c = λ m past st is d same_day fro
                 let one = done.steps in omega (arith, few, one);
           };
         };
-        adds = refl;
+        adds = subst (λ k. st.drafts ++ draft.Pad ∷ [] ≡ st.drafts ++ drafts_in (pad_in k))
+            (sym c.in-Pad.is) refl;
       },
     )
 
@@ -226,7 +230,8 @@ returns-in_ok-take_balance-in-Balance-clause-standing c = λ m past st is d same
                 let one = done.steps in omega (arith, few, one);
           };
         };
-        adds = sym (append-nil st.drafts);
+        adds = subst (λ k. st.drafts ≡ st.drafts ++ drafts_in (pad_in k)) (sym c.in-Balance.is)
+            (sym (append-nil st.drafts));
       },
     )
 
@@ -239,7 +244,8 @@ returns-in_default-clause-standing c = λ m past st is d same_day from same_kind
       subst (λ k. IsStepBy m past st d k st) (sym same_kind) none.0,
       record {
         stands = later m past st d c.args.self.now (ap account_step same_kind ∙ none.1) is;
-        adds = sym (append-nil st.drafts);
+        adds = sym (ap (λ o. st.drafts ++ drafts_in o) (no_pad c.args.kind.now c.in_default.not-Pad)
+            ∙ append-nil st.drafts);
       },
     )
 
