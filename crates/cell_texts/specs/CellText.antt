@@ -21,7 +21,7 @@ abbrev pub is_number : Value → Bool
 is_number (Number p n) = true
 is_number _ = false
 
--- what most cells at the left of their columns have
+-- whether it is a text or a day, as most cells at the left of their columns are
 abbrev pub is_text_or_day : Value → Bool
 is_text_or_day (Text t) = true
 is_text_or_day (Day d) = true

@@ -152,8 +152,8 @@ fn spaces_behind(own: usize, width: usize, behind: usize) -> Result<usize, Alloc
         .ok_or(AllocError)
 }
 
-/// Adds a text that has no control characters, and tells its width.
-pub(crate) fn push_clear(out: &mut Vec<u8>, text: &str) -> Result<usize, AllocError>
+/// Adds a text as it is, and tells its width.
+pub(crate) fn push_as_it_is(out: &mut Vec<u8>, text: &str) -> Result<usize, AllocError>
     ensures text { OnOk result (out.new.items ≡ out.old.items ++ text.now) }
     ensures width { IfOk result (λ n. n ≡ text_width text.now) }
 {
@@ -168,7 +168,7 @@ fn push_made(out: &mut Vec<u8>, text: &str, clean: &mut String) -> Result<usize,
     ensures width { IfOk result (λ n. n ≡ text_width (clean_text text.now)) }
 {
     make_clean(clean, text)?;
-    push_clear(out, clean)
+    push_as_it_is(out, clean)
 }
 
 /// Adds a text without its control characters, and tells its width.
@@ -227,7 +227,7 @@ fn push_set(out: &mut Vec<u8>, set: &TextSet<'_>, clean: &mut String) -> Result<
     ensures width { IfOk result (λ n. n ≡ text_width (set_text set.now)) }
 {
     make_set(clean, set)?;
-    push_clear(out, clean)
+    push_as_it_is(out, clean)
 }
 
 /// How many columns of a terminal the texts of a set take.

@@ -12,7 +12,7 @@ ghost use Rattle.query_holdings.specs.Entries.{in_order};
 ghost use Rattle.cell_texts.specs.CellText.{bag_text, entries_text};
 ghost use Rattle.cell_texts.specs.CellText as spec;
 
-use crate::cells::{Scratch, add_between, held_width, push_clear, push_held, width_of};
+use crate::cells::{Scratch, add_between, held_width, push_as_it_is, push_held, width_of};
 use crate::nears::Nears;
 use crate::numbers::Numbers;
 use crate::positions::add_entry;
@@ -154,7 +154,7 @@ fn push_entries<'h>(
         return Ok(out.len() - start);
     }
     make_entries(scratch, places, entries, display)?;
-    push_clear(out, &scratch.clean)
+    push_as_it_is(out, &scratch.clean)
 }
 
 /// Adds an inventory, and tells its width.

@@ -9,7 +9,7 @@ ghost use Rattle.cell_texts.specs.Width.{text_width};
 ghost use Rattle.cell_texts.specs.CellText.{entry_text, label_text, lot_text, position_text, units_text};
 
 use crate::cells::{
-    Scratch, add_clean, push_amount, push_clear, push_units, units_width, width_of,
+    Scratch, add_clean, push_amount, push_as_it_is, push_units, units_width, width_of,
 };
 use bean_base::{Currency, Day, Text};
 use bean_lots::{COUNT_PLACES, Key, Lot};
@@ -154,7 +154,7 @@ pub(crate) fn push_position(
         );
     }
     make_position(scratch, key, count, display)?;
-    push_clear(out, &scratch.clean)
+    push_as_it_is(out, &scratch.clean)
 }
 
 /// How many columns of a terminal a position takes.

@@ -113,7 +113,7 @@ fn stands_at<'r>(
 
 /// The number of the group of these keys, which are hashed. Where the first is a text, it is noted.
 #[inline(never)]
-fn sought_for<'r>(
+fn number_by_hash<'r>(
     entries: &IndexMap<ValueKey<'r>, Totals<'r>>,
     keys: &[Value<'r>],
     hints: &mut Hints,
@@ -145,7 +145,7 @@ fn number_of<'r>(
             return Some(near);
         }
     }
-    sought_for(entries, keys, hints)
+    number_by_hash(entries, keys, hints)
 }
 
 /// Writes what was gathered under keys: behind all others, where these keys are new.
