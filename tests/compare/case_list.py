@@ -85,6 +85,24 @@ query("query_running_balance", "The running balance of the postings that pass, w
 """)
 query("query_balance_of_lots", "A running balance of lots, in which a lot that is sold is no more.",
       "SELECT position, balance, units(balance), cost(balance) WHERE account ~ 'inv'")
+MANY = """2014-01-01 open Assets:Cash
+2014-01-01 open Equity:Open
+""" + "".join(f"2014-01-{2 + i:02d} * \"Start\"\n  Assets:Cash  {10 + i}.00 C{i}\n  Equity:Open\n" for i in range(10)) + """2014-01-20 * "There"
+  Assets:Cash  -11.00 C1
+  Equity:Open
+2014-01-21 * "And back"
+  Assets:Cash  11.00 C1
+  Equity:Open
+2014-01-22 * "More"
+  Assets:Cash  1.00 C9
+  Equity:Open
+"""
+query("query_balance_of_many", "A running balance of many currencies, of which one goes and comes back behind the others.",
+      "SELECT position, balance WHERE account ~ 'cash'", ledger=MANY)
+query("query_balance_of_many_cut", "The same in the other order, cut at a limit; with each growth of memory refused in turn.",
+      "SELECT balance, units(balance) WHERE account ~ 'cash' ORDER BY date DESC LIMIT 2", memory=True, ledger=MANY)
+query("query_balance_of_many_once", "The same balance in another order of entry is told once.",
+      "SELECT DISTINCT balance WHERE account ~ 'cash'", ledger=MANY)
 query("query_metadata", "Metadata of a posting, of its transaction, and of either.",
       "SELECT meta('k'), entry_meta('k'), any_meta('k')", ledger=META, want="""meta('k')  entry_meta('k')  any_meta('k')
 ---------  ---------------  -------------

@@ -80,7 +80,7 @@ fn accounts_of<'a>(
 {
     match details {
         Details::All => set_of_accounts(alloc, posted),
-        Details::ButAccounts | Details::Few => Ok(TextSet::new(Vec::new(alloc))),
+        Details::ButAccounts | Details::Few => Ok(TextSet::empty(alloc)),
     }
 }
 
@@ -219,7 +219,7 @@ fn padding_accounts<'a>(
             ];
             Ok(TextSet::new(Vec::from_array(alloc, names)?))
         }
-        Details::ButAccounts | Details::Few => Ok(TextSet::new(Vec::new(alloc))),
+        Details::ButAccounts | Details::Few => Ok(TextSet::empty(alloc)),
     }
 }
 

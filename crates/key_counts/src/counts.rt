@@ -27,10 +27,19 @@ pub trait Lend: Sized {
 
 /// Counts of keys, none of which comes twice. They are seen as the list of keys and counts, in the
 /// order in which the keys came.
-#[derive(Drop)]
 pub struct KeyCounts<K: Eq + Hash> {
     slots: Vec<(K, i128)>,
     places: Option<Places<K>>,
+}
+
+/// Written out, so that what gives them up needs to know nothing of what is in them.
+impl<K: Eq + Hash + Drop> Drop for KeyCounts<K> {
+    fn drop(self) {
+        let KeyCounts {
+            slots: _,
+            places: _,
+        } = self;
+    }
 }
 
 impl<K: Eq + Hash> Model for KeyCounts<K> {
@@ -121,13 +130,11 @@ impl<K: Eq + Hash + Lend + Drop> Clone for KeyCounts<K> {
     ghost is_clone = { λ a b. b ≡ a };
 
     fn clone(&self) -> Result<Self, AllocError> {
-        let alloc = *self.slots.allocator();
-        let slots = copies(alloc, self.slots.as_slice())?;
-        let places = match &self.places {
-            Some(_) => Some(places_of(alloc, self.slots.as_slice())?),
-            None => None,
-        };
-        Ok(KeyCounts { slots, places })
+        let mut copy = self.listed()?;
+        if self.places.is_some() {
+            copy.hash_keys()?;
+        }
+        Ok(copy)
     }
 }
 
@@ -140,6 +147,22 @@ impl<K: Eq + Hash> KeyCounts<K> {
             slots: Vec::new(alloc),
             places: None,
         }
+    }
+
+    /// A copy that is only gone through. Its keys aren't hashed, however many they are, before another
+    /// is pushed: until then one is looked for among all.
+    pub fn listed(&self) -> Result<KeyCounts<K>, AllocError>
+    where
+        K: Lend + Drop,
+        ensures { IfOk result (λ copy. copy ≡ self.now) }
+    {
+        // That the counts know how many keys they have tells that each stands once.
+        let _count = self.len();
+        let slots = copies(*self.slots.allocator(), self.slots.as_slice())?;
+        Ok(KeyCounts {
+            slots,
+            places: None,
+        })
     }
 
     /// Where memory is taken.

@@ -87,7 +87,7 @@ impl<'a> Model for NoExtras<'a> {
 impl<'a> NoExtras<'a> {
     /// Takes the memory that they stand in.
     pub fn new(alloc: Global) -> Result<NoExtras<'a>, AllocError> {
-        let none = Shared::new(alloc, TextSet::new(Vec::new(alloc)))?;
+        let none = Shared::new(alloc, TextSet::empty(alloc))?;
         let extras = Extras {
             texts: None,
             tags: none.share()?,

@@ -140,6 +140,17 @@ impl<'r> Holding<'r> {
         self.counts.alloc()
     }
 
+    /// A copy that is only gone through: where it has many keys, none is found quickly.
+    pub fn listed(&self) -> Result<Holding<'r>, AllocError>
+        ensures { IfOk result (λ copy. copy ≡ self.now) }
+    {
+        Ok(Holding {
+            counts: self.counts.listed()?,
+            holes: self.holes,
+            keys: None,
+        })
+    }
+
     /// The count under a key, 0 where nothing is held.
     pub fn get(&self, key: &BagKey<'_>) -> i128
         ensures { result ≡ count_of self.now key.now }

@@ -54,6 +54,7 @@ fn at_posting<'r>(
         schema: input.parts.bounds.schema,
         posting: Some(input.ledger.row(run.row)),
         running: None,
+        compares: false,
         keys: &[],
         aggregates: &[],
     };
@@ -138,6 +139,7 @@ pub fn row_on<'r>(
         schema: input.parts.bounds.schema,
         posting: Some(input.ledger.row(run.row)),
         running: readable(input.parts.mode, &run.running),
+        compares: input.parts.output.is_distinct,
         keys: &[],
         aggregates: &[],
     };
@@ -182,6 +184,7 @@ pub fn last_on<'r>(
         schema: input.parts.bounds.schema,
         posting: None,
         running: None,
+        compares: false,
         keys: run.groups.get(run.group).keys,
         aggregates: run.groups.get(run.group).totals,
     };

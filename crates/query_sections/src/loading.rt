@@ -17,6 +17,7 @@ use posting_table::HeldRow;
 use query_code::{Constant, Push};
 use query_terms::Column;
 use query_values::Value;
+use query_values::comparison::is_null;
 use std::alloc::AllocError;
 
 /// The value that an entry of the pool is.
@@ -75,10 +76,11 @@ fn transaction_text<'r>(posting: &'r HeldRow<'_>, key: &str) -> Value<'r>
 fn any_text<'r>(posting: &'r HeldRow<'_>, key: &str) -> Value<'r>
     ensures { result ≡ rows.any_text key.now (row_of posting.now) }
 {
-    match posting_text(posting, key) {
-        Value::Null => transaction_text(posting, key),
-        text => text,
+    let text = posting_text(posting, key);
+    if is_null(&text) {
+        return transaction_text(posting, key);
     }
+    text
 }
 
 impl<'r, 'a> Loads<'r, 'a, '_> {
@@ -113,7 +115,10 @@ impl<'r, 'a> Loads<'r, 'a, '_> {
         let Some(running) = self.running else {
             unreachable!();
         };
-        running.clone()
+        if self.compares {
+            return running.clone();
+        }
+        running.listed()
     }
 
     #[inline(always)]

@@ -11,6 +11,9 @@ pub struct Loads<'r, 'a, 's> {
     pub schema: Version,
     pub posting: Option<&'r HeldRow<'a>>,
     pub running: Option<&'s Value<'r>>,
+    /// Whether copies of the running inventory are compared with one another, as where rows are told
+    /// once. Else they are only gone through.
+    pub compares: bool,
     pub keys: &'s [Value<'r>],
     pub aggregates: &'s [Value<'r>],
 }

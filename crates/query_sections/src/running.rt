@@ -390,6 +390,7 @@ pub fn go_on<'r>(
         schema: loads.schema,
         posting: loads.posting,
         running: loads.running,
+        compares: loads.compares,
         keys: loads.keys,
         aggregates: loads.aggregates,
     };

@@ -3,23 +3,9 @@ ghost use Rattle.std.specs.Prelude.{◌≡◌, ◌≢◌, ◌<◌, ◌≤◌, []
 ghost use Rattle.std.specs.Prelude.{vec_capacity};
 
 use query_answer::AnswerRows;
-use query_values::{OwnBag, Value};
+use query_values::Value;
 use std::alloc::{AllocError, Global};
 use std::marker::Model;
-
-/// Gives an inventory up.
-#[inline(never)]
-fn give_bag_up(bag: OwnBag<'_>) {
-    let _ = bag;
-}
-
-/// Gives a value up. Of all kinds an inventory alone has memory to give back, and is a call.
-#[inline(always)]
-fn give_up(value: Value<'_>) {
-    if let Value::Inventory(bag) = value {
-        give_bag_up(bag);
-    }
-}
 
 /// Gives up all values, from the last on, and keeps the room. This is done for each posting, so that
 /// it is put in place.
@@ -29,7 +15,7 @@ fn take_all(values: &mut Vec<Value<'_>>)
     ensures room { vec_capacity values.new ≡ vec_capacity values.old }
 {
     while let Some(value) = values.pop() {
-        give_up(value);
+        let _ = value;
     }
 }
 

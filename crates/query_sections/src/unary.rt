@@ -9,7 +9,7 @@ ghost use Rattle.query_values.specs.Operation.{is_among};
 
 use crate::finders::Finders;
 use query_code::{Constant, TextList, Unary};
-use query_values::arithmetic::{abs, align, neg};
+use query_values::arithmetic::{abs, align};
 use query_values::comparison::{is_null, is_true};
 use query_values::membership::{in_days, in_numbers};
 use query_values::{Value, part};
@@ -108,7 +108,7 @@ pub fn apply_unary<'r>(
     ensures same { finders.new ≡ finders.old }
 {
     match op {
-        Unary::Neg => Ok(neg(x)),
+        Unary::Neg => Ok(x.negated()),
         _ => applied(alloc, finders, pool, op, &x),
     }
 }

@@ -18,9 +18,9 @@ fn lunch(alloc: Global) -> Result<Entry<'static>, Fail>
     let parts = EntryParts {
         payee: None,
         narration: PlainText::lent("Lunch"),
-        tags: Shared::new(alloc, TextSet::new(Vec::new(alloc)))?,
-        links: Shared::new(alloc, TextSet::new(Vec::new(alloc)))?,
-        accounts: TextSet::new(Vec::new(alloc)),
+        tags: Shared::new(alloc, TextSet::empty(alloc))?,
+        links: Shared::new(alloc, TextSet::empty(alloc))?,
+        accounts: TextSet::empty(alloc),
         metadata: Metadata::empty(),
         date: parse_day("2014-01-02")?,
         flag: EntryFlag::Written(Flag::Complete),

@@ -1,6 +1,6 @@
 //! Arithmetic of values. Of null it gives null.
 ghost use Rattle.std.specs.Prelude.{◌≡◌, IsTrue};
-ghost use Rattle.query_values.specs.Arithmetic.{aligned, difference_of, magnitude_of, negative_of};
+ghost use Rattle.query_values.specs.Arithmetic.{aligned, difference_of, magnitude_of};
 ghost use Rattle.query_values.specs.Arithmetic.{product_of, sum_of};
 ghost use Rattle.query_values.specs.Held.{is_held};
 ghost use Rattle.query_values.specs.Operand.{are_addable, has_at_most, is_number, is_signed};
@@ -77,31 +77,6 @@ pub fn mul<'r>(a: &Value<'_>, b: &Value<'_>) -> Value<'r>
                 count: *m * *n,
             }
         }
-        _ => Value::Null,
-    }
-}
-
-/// The number, the amount, the position or the inventory of the other sign.
-pub fn neg(x: Value<'_>) -> Value<'_>
-    requires { IsTrue (is_held (negative_of x)) }
-    ensures { result ≡ negative_of x.entry }
-{
-    match x {
-        Value::Number { places, count } => Value::Number {
-            places,
-            count: -count,
-        },
-        Value::Amount {
-            places,
-            count,
-            currency,
-        } => Value::Amount {
-            places,
-            count: -count,
-            currency,
-        },
-        Value::Position { key, count } => Value::Position { key, count: -count },
-        Value::Inventory(bag) => Value::Inventory(bag.negated()),
         _ => Value::Null,
     }
 }

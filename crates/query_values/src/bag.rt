@@ -1,5 +1,6 @@
 //! Inventories whose counts have any number of decimals.
-ghost use Rattle.std.specs.Prelude.{◌≡◌, ◌≤◌, ◌+ℤ◌, [], All, IfOk, IsTrue, OnErr, OnOk, map};
+ghost use Rattle.std.specs.Prelude.{◌≡◌, ◌≤◌, ◌+ℤ◌, [], All, IfOk, IfSome, IsTrue, OnErr, OnOk};
+ghost use Rattle.std.specs.Prelude.{map};
 ghost use Rattle.std.specs.Int.{w128};
 ghost use Rattle.std.specs.Int.RustNames.{FitsSigned};
 ghost use Rattle.bean_lots.specs.Inventory.{IsInventory, MayBeNegated, count_of};
@@ -93,18 +94,42 @@ impl<'r> Model for OwnBag<'r> {
     ghost view = { λ b. bag_in b.form };
 }
 
+/// A copy of a bag in few bytes, where that can be.
+fn few_of<'r>(bag: &Bag<'r>) -> Result<Option<Form<'r>>, AllocError>
+    ensures { IfOk result (λ found. IfSome found (λ form. bag_in form ≡ bag.now)) }
+{
+    let Some(held) = bag.held.kept()? else {
+        return Ok(None);
+    };
+    Ok(Some(Form::Kept {
+        places: bag.places,
+        held,
+    }))
+}
+
 /// A copy of a bag that can grow: in few bytes where that can be.
 fn copy_of<'r>(bag: &Bag<'r>) -> Result<Form<'r>, AllocError>
     ensures { IfOk result (λ form. bag_in form ≡ bag.now) }
 {
-    if let Some(held) = bag.held.kept()? {
-        return Ok(Form::Kept {
-            places: bag.places,
-            held,
-        });
+    if let Some(form) = few_of(bag)? {
+        return Ok(form);
     }
     let alloc = bag.held.alloc();
     Ok(Form::Grown(Box::new(alloc, bag.clone()?)?))
+}
+
+/// The same, where the copy is only gone through.
+fn listed_copy_of<'r>(bag: &Bag<'r>) -> Result<Form<'r>, AllocError>
+    ensures { IfOk result (λ form. bag_in form ≡ bag.now) }
+{
+    if let Some(form) = few_of(bag)? {
+        return Ok(form);
+    }
+    let copy = Bag {
+        places: bag.places,
+        held: bag.held.listed()?,
+    };
+    Ok(Form::Grown(Box::new(bag.held.alloc(), copy)?))
 }
 
 impl Clone for OwnBag<'_> {
@@ -123,6 +148,7 @@ impl Clone for OwnBag<'_> {
 }
 
 /// A copy with a count more under a key, which can grow.
+#[inline(never)]
 fn grown_with<'r>(
     places: u8,
     kept: &Kept<'r>,
@@ -147,6 +173,19 @@ impl<'r> OwnBag<'r> {
         Ok(OwnBag {
             form: Form::Grown(Box::new(alloc, bag)?),
         })
+    }
+
+    /// A copy that is only gone through, and not compared with another: where it has many positions,
+    /// none is found quickly.
+    pub fn listed(&self) -> Result<OwnBag<'r>, AllocError>
+        ensures { IfOk result (λ b. b ≡ self.now) }
+    {
+        match &self.form {
+            Form::Grown(bag) => Ok(OwnBag {
+                form: listed_copy_of(bag)?,
+            }),
+            Form::Kept { .. } => self.clone(),
+        }
     }
 
     /// How many decimals its counts have.
@@ -235,6 +274,7 @@ impl<'r> OwnBag<'r> {
     }
 
     /// Adds to the count under a key. The caller knows that the sum fits.
+    #[inline(always)]
     pub fn add(&mut self, key: BagKey<'r>, count: i128) -> Result<(), AllocError>
         requires { FitsSigned w128 (count_of self.old.held key +ℤ count) }
         ensures ok { OnOk result (self.new ≡ with_entry self.old key.entry count) }

@@ -36,6 +36,16 @@ impl<'a> Model for TextSet<'a> {
 }
 
 impl<'a> TextSet<'a> {
+    /// The set of no texts. Takes no memory.
+    #[inline(always)]
+    pub fn empty(alloc: Global) -> TextSet<'a>
+        ensures { result ≡ [] }
+    {
+        TextSet {
+            texts: Vec::new(alloc),
+        }
+    }
+
     /// The set of these texts, which may come in any order and more than once.
     pub fn new(texts: Vec<Slice<'a>>) -> TextSet<'a>
         ensures { result ≡ set_of texts.entry.items }

@@ -1,5 +1,7 @@
 //! The values that queries compute and that stand in the cells of tables.
-ghost use Rattle.std.specs.Prelude.{◌≡◌};
+ghost use Rattle.std.specs.Prelude.{◌≡◌, IfOk, IsTrue};
+ghost use Rattle.query_values.specs.Arithmetic.{negative_of};
+ghost use Rattle.query_values.specs.Held.{is_held};
 
 use crate::bag::OwnBag;
 use crate::text_set::TextSet;
@@ -11,7 +13,6 @@ use std::alloc::AllocError;
 /// A value, in 32 bytes. Names, texts, sets and keys are lent from where they are kept.
 ///
 /// Its numbers are `count * 10^-places`; those of positions count `10^-8`.
-#[derive(Drop)]
 pub enum Value<'r> {
     Null,
     Truth(bool),
@@ -33,6 +34,73 @@ pub enum Value<'r> {
         count: i128,
     },
     Inventory(OwnBag<'r>),
+}
+
+/// Written out, so that what gives one up needs to know nothing of what is in it. Of all kinds an
+/// inventory alone has memory to give back, and is a call.
+impl Drop for Value<'_> {
+    #[inline(always)]
+    fn drop(self) {
+        match self {
+            Value::Null => {}
+            Value::Truth(_) => {}
+            Value::Number {
+                places: _,
+                count: _,
+            } => {}
+            Value::Text(_) => {}
+            Value::Day(_) => {}
+            Value::Set(_) => {}
+            Value::Amount {
+                places: _,
+                currency: _,
+                count: _,
+            } => {}
+            Value::Position { key: _, count: _ } => {}
+            Value::Inventory(_) => {}
+        }
+    }
+}
+
+impl<'r> Value<'r> {
+    /// The same value once more, where an inventory is only gone through and not compared with another.
+    pub fn listed(&self) -> Result<Value<'r>, AllocError>
+        ensures { IfOk result (λ copy. copy ≡ self.now) }
+    {
+        match self {
+            Value::Inventory(bag) => Ok(Value::Inventory(bag.listed()?)),
+            other => other.clone(),
+        }
+    }
+
+    /// The value of the other sign; of null it is null.
+    pub fn negated(self) -> Value<'r>
+        requires { IsTrue (is_held (negative_of self)) }
+        ensures { result ≡ negative_of self.entry }
+    {
+        match self {
+            Value::Number { places, count } => Value::Number {
+                places,
+                count: -count,
+            },
+            Value::Amount {
+                places,
+                count,
+                currency,
+            } => Value::Amount {
+                places,
+                count: -count,
+                currency,
+            },
+            Value::Position { key, count } => Value::Position { key, count: -count },
+            Value::Inventory(bag) => Value::Inventory(bag.negated()),
+            Value::Null => Value::Null,
+            Value::Truth(_) => Value::Null,
+            Value::Text(_) => Value::Null,
+            Value::Day(_) => Value::Null,
+            Value::Set(_) => Value::Null,
+        }
+    }
 }
 
 /// Null.

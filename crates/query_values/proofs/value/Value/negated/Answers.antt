@@ -2,7 +2,7 @@ use Rattle.std.proofs.Common.{IsTrue, subst}
 use Rattle.query_values.specs.Arithmetic.{negative_of}
 use Rattle.query_values.specs.Held.{is_held}
 use Rattle.query_values.proofs.TotalFacts.{both, negatable}
-use Rattle.query_values.proofs.arithmetic.neg.Goals as goal
+use Rattle.query_values.proofs.value.Value.negated.Goals as goal
 
 pub negated-requires : goal.negated-requires
 negated-requires c =
