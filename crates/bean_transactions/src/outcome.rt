@@ -16,7 +16,7 @@ ghost use Rattle.bean_transactions.specs.Stock.{IsSmallStock, KnowsLots, rest_of
 use crate::line::Line;
 use crate::setting::Head;
 use crate::stock::Stock;
-use crate::stop::LineFault;
+use crate::stop::{LineFault, refusal_at};
 use bean_base::{Account, Amount, Apart, Currency, FaultKind, Num, Text};
 use bean_holdings::Posted;
 use bean_lots::Lot;
@@ -77,12 +77,6 @@ fn selector_of<'a>(units: &Amount<'a>, parts: &LotParts<'a>) -> Selector<'a>
         day: parts.day,
         label: label_of(parts),
     }
-}
-
-fn refusal_at(kind: FaultKind, line: usize) -> Refusal<LineFault>
-    ensures { result ≡ Refusal.Refused (spec.fault_at kind line) }
-{
-    Refusal::Refused(LineFault { kind, line })
 }
 
 fn refusal_of(refusal: Refusal<LotCause>, line: usize) -> Refusal<LineFault>

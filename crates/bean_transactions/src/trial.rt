@@ -17,7 +17,7 @@ use crate::line::{Line, Tried};
 use crate::lines::line_up;
 use crate::plain::{are_plain, as_written, bare_front, try_plain};
 use crate::setting::Head;
-use crate::stop::{LineFault, refusal_of};
+use crate::stop::{LineFault, refusal_at, refusal_of};
 use bean_accounts::Methods;
 use bean_base::{FaultKind, List};
 use bean_holdings::{Holdings, Posted};
@@ -128,10 +128,7 @@ pub fn try_transaction<'a>(
         });
     }
     if are_outside_profile(rest) {
-        return Err(Refusal::Refused(LineFault {
-            kind: FaultKind::OutsideProfile,
-            line: head.line,
-        }));
+        return Err(refusal_at(FaultKind::OutsideProfile, head.line));
     }
     if are_plain(rest) {
         let posted = as_written(posted, rest)?;
