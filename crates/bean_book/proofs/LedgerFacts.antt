@@ -7,7 +7,7 @@ use Rattle.bean_pad.specs.declared.note.NotedPad.{NotedPad}
 use Rattle.bean_replay.specs.Booked.{bookings_of, places_in, with_pads}
 use Rattle.bean_replay.specs.Stand.{Stand, postings_of}
 use Rattle.bean_replay.specs.declared.booking.Booking.{Booking}
-use Rattle.bean_replay.specs.declared.booking.Draft.{Draft}
+use Rattle.bean_replay.specs.Draft.{Draft}
 use Rattle.bean_replay.specs.declared.cause.BookCause.{BookCause}
 use Rattle.bean_replay.specs.declared.cause.BookCause.TheVariants.{TooManyPostings}
 use Rattle.refusals.specs.declared.refusal.Refusal.{Refusal}

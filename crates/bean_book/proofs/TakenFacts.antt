@@ -9,8 +9,8 @@ use Rattle.bean_replay.proofs.StepFacts.{empty}
 use Rattle.bean_replay.specs.Booked.{places_in, with_pads}
 use Rattle.bean_replay.specs.Stand.{postings_in, postings_of}
 use Rattle.bean_replay.specs.declared.booking.Booking.TheVariants as booking
-use Rattle.bean_replay.specs.declared.booking.Draft.{Draft}
-use Rattle.bean_replay.specs.declared.booking.Draft.TheVariants as draft
+use Rattle.bean_replay.specs.Draft.{Draft}
+use Rattle.bean_replay.specs.Draft as draft
 use Rattle.bean_replay.specs.declared.booking.Kept.{Kept}
 use Rattle.posting_table.specs.Decimals.{decimals_of}
 use Rattle.posting_table.specs.declared.row.Row.{Row}

@@ -8,11 +8,10 @@ ghost use Rattle.bean_book.specs.Rows.{rows_of_pad};
 ghost use Rattle.bean_book.specs.Taken.{IsLedgerSoFar, with_rows};
 ghost use Rattle.bean_book.specs.Tame.{IsTameKept};
 ghost use Rattle.bean_replay.specs.Booked as booked;
+ghost use Rattle.bean_replay.specs.Draft as draft;
 ghost use Rattle.bean_replay.specs.Small.{IsSmallKept, IsSmallNoted};
 ghost use Rattle.bean_replay.specs.Stand.{postings_of};
 ghost use Rattle.bean_replay.specs.declared.booking.Booking.TheVariants as booking;
-ghost use Rattle.bean_replay.specs.declared.booking.Draft as drafts;
-ghost use Rattle.bean_replay.specs.declared.booking.Draft.TheVariants as draft;
 ghost use Rattle.bean_book.specs.declared.details.Details as levels;
 
 use crate::counts::count_pads;
@@ -59,9 +58,9 @@ impl<'a> LedgerRows<'a> {
     /// Takes a transaction that is kept.
     fn keep(&mut self, details: Details, kept: &Kept<'a>) -> Result<(), AllocError>
         requires small { IsSmallKept kept.now }
-        requires room { (ds : List drafts.Draft) × IsLedgerSoFar details ds self.old
+        requires room { (ds : List draft.Draft) × IsLedgerSoFar details ds self.old
             × (length (postings_of ds) + length kept.now.postings ≤ MOST_POSTINGS) }
-        ensures { (ds : List drafts.Draft) → IsLedgerSoFar details ds self.old
+        ensures { (ds : List draft.Draft) → IsLedgerSoFar details ds self.old
             → OnOk result (IsLedgerSoFar details (ds ++ draft.Transaction kept.now ∷ []) self.new) }
     {
         push_kept(
@@ -76,7 +75,7 @@ impl<'a> LedgerRows<'a> {
 
     /// Takes the place of a pad.
     fn pad(&mut self) -> Result<(), AllocError>
-        ensures { (details : levels.Details) (ds : List drafts.Draft)
+        ensures { (details : levels.Details) (ds : List draft.Draft)
             → IsLedgerSoFar details ds self.old
             → OnOk result (IsLedgerSoFar details (ds ++ draft.Pad ∷ []) self.new) }
     {
@@ -183,9 +182,9 @@ pub(crate) fn with_pads<'a>(
     pads: Vec<NotedPad<'a>>,
 ) -> Result<Ledger<'a>, Refusal<BookCause>>
     requires small { AllByRecursion IsSmallNoted pads.items }
-    requires booked { (ds : List drafts.Draft) × IsLedgerSoFar details ds rows
+    requires booked { (ds : List draft.Draft) × IsLedgerSoFar details ds rows
         × (booked.places_in ds ≡ length pads.items) }
-    ensures { (ds : List drafts.Draft) → IsLedgerSoFar details ds rows.entry
+    ensures { (ds : List draft.Draft) → IsLedgerSoFar details ds rows.entry
         → booked.places_in ds ≡ length pads.entry.items
         → MakesLedger details (booked.with_pads ds pads.entry.items) result }
 {

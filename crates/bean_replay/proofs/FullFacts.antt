@@ -24,8 +24,8 @@ use Rattle.bean_replay.specs.Stand.{account_steps, place_of, setting_of, with_pa
 use Rattle.bean_replay.specs.declared.cause.BookCause.{BookCause}
 use Rattle.refusals.specs.declared.refusal.Refusal.{Refusal}
 use Rattle.refusals.specs.declared.refusal.Refusal.TheVariants.{OutOfMemory}
-use Rattle.bean_replay.specs.declared.booking.Draft.{Draft}
-use Rattle.bean_replay.specs.declared.booking.Draft.TheVariants as draft
+use Rattle.bean_replay.specs.Draft.{Draft}
+use Rattle.bean_replay.specs.Draft as draft
 use Rattle.bean_replay.specs.declared.written.WrittenParts.{WrittenParts as Written}
 
 kept : Written → List Posted → Draft

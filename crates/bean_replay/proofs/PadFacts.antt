@@ -17,8 +17,8 @@ use Rattle.bean_pad.specs.declared.note.NotedPad.{NotedPad}
 use Rattle.bean_replay.specs.Booked.{places_in}
 use Rattle.bean_replay.specs.Stand.{IsStepBy, LeadsTo, Stand, after_trial, place_of, postings_of}
 use Rattle.bean_replay.specs.Stand.{written_in}
-use Rattle.bean_replay.specs.declared.booking.Draft.{Draft}
-use Rattle.bean_replay.specs.declared.booking.Draft.TheVariants as draft
+use Rattle.bean_replay.specs.Draft.{Draft}
+use Rattle.bean_replay.specs.Draft as draft
 use Rattle.bean_replay.specs.declared.written.WrittenParts.{WrittenParts as Written}
 use Rattle.bean_replay.proofs.ShownFacts.{pads_alone}
 

@@ -14,7 +14,7 @@ use Rattle.bean_pad.specs.declared.step.Step.{Step}
 use Rattle.bean_holdings.specs.declared.posted.Posted.{Posted}
 use Rattle.bean_replay.specs.Stand.{posting_step, postings_in, postings_of, steps_of_postings}
 use Rattle.bean_replay.specs.Watched.{seen_of, unseen_of}
-use Rattle.bean_replay.specs.declared.booking.Draft.{Draft}
+use Rattle.bean_replay.specs.Draft.{Draft}
 
 -- ---- one more booking
 

@@ -5,8 +5,8 @@ use Rattle.std.specs.List.{AllByRecursion}
 use Rattle.bean_replay.specs.Stand.{IsStepBy, LeadsTo, Stand, after_trial, posting_step}
 use Rattle.bean_replay.specs.Stand.{postings_in, postings_of, setting_of, written_in}
 use Rattle.bean_replay.specs.Booked.{bookings_of, with_pads}
-use Rattle.bean_replay.specs.declared.booking.Draft.{Draft}
-use Rattle.bean_replay.specs.declared.booking.Draft.TheVariants as draft
+use Rattle.bean_replay.specs.Draft.{Draft}
+use Rattle.bean_replay.specs.Draft as draft
 use Rattle.bean_replay.specs.declared.written.WrittenParts.{WrittenParts as Written}
 use Rattle.bean_directives.specs.declared.directive.Directive.{Directive}
 use Rattle.bean_directives.specs.declared.directive.DirectiveKind.{DirectiveKind}

@@ -25,7 +25,7 @@ use Rattle.bean_replay.specs.Booker.{HasRoom, IsBehind, IsStanding, IsWritten, p
 use Rattle.bean_replay.specs.Stand.{IsFull, IsStepBy, Stand, account_step, account_steps}
 use Rattle.bean_replay.specs.Stand.{after_trial, setting_of, written_in}
 use Rattle.bean_replay.specs.declared.booker.Booker.{Booker}
-use Rattle.bean_replay.specs.declared.booking.Draft.{Draft}
+use Rattle.bean_replay.specs.Draft.{Draft}
 use Rattle.bean_replay.specs.declared.written.WrittenParts.{WrittenParts as Written}
 
 -- the setting of a transaction is what the program has

@@ -14,8 +14,8 @@ use Rattle.bean_replay.specs.Stand.{IsFull, LeadsTo, Stand, postings_of}
 use Rattle.bean_replay.specs.declared.booked.Booked as declared
 use Rattle.bean_replay.specs.declared.booking.Booking.{Booking}
 use Rattle.bean_replay.specs.declared.booking.Booking.TheVariants as booking
-use Rattle.bean_replay.specs.declared.booking.Draft.{Draft}
-use Rattle.bean_replay.specs.declared.booking.Draft.TheVariants as draft
+use Rattle.bean_replay.specs.Draft.{Draft}
+use Rattle.bean_replay.specs.Draft as draft
 use Rattle.bean_replay.specs.declared.bookings.Bookings.{Ghosts as BookingsOf}
 
 abbrev pub method_in_ledger : Loaded → List ℕ → methods.Method

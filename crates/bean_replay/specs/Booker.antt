@@ -1,5 +1,5 @@
 -- What is kept while directives are taken.
-use Rattle.std.specs.Prelude.{◌≡◌, ◌≤◌, ◌+◌, ◌^◌, ℕ, Bool, true, false, List, [], ◌∷◌, ◌++◌, length}
+use Rattle.std.specs.Prelude.{◌≡◌, ◌≤◌, ◌+◌, ◌^◌, ℕ, Bool, List, [], ◌∷◌, ◌++◌, length}
 use Rattle.std.specs.Prelude.{Option, Some, None}
 use Rattle.limits.specs.declared.counts.TheConstants.{MOST_POSTINGS}
 use Rattle.bean_accounts.specs.Kept as accounts
@@ -21,8 +21,8 @@ use Rattle.bean_replay.specs.Stand.{written_in}
 use Rattle.bean_replay.specs.Watched.{unseen_of}
 use Rattle.bean_replay.specs.declared.booker.Booker.{Booker}
 use Rattle.bean_holdings.specs.declared.posted.Posted.{Posted}
-use Rattle.bean_replay.specs.declared.booking.Draft.{Draft}
-use Rattle.bean_replay.specs.declared.booking.Draft.TheVariants as draft
+use Rattle.bean_replay.specs.Draft.{Draft}
+use Rattle.bean_replay.specs.Draft as draft
 use Rattle.bean_replay.specs.declared.written.WrittenParts.{WrittenParts as Written}
 use Rattle.bean_replay.specs.declared.bookings.Bookings.{Ghosts as BookingsOf}
 

@@ -1,4 +1,5 @@
 pub mod Method
+pub mod Draft
 pub mod Stand
 pub mod Watched
 pub mod Booker

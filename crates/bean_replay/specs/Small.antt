@@ -11,8 +11,8 @@ use Rattle.bean_transactions.specs.Tried.{booked_legs}
 use Rattle.bean_holdings.specs.declared.posted.Posted.{Posted}
 use Rattle.bean_replay.specs.declared.booking.Booking.{Booking}
 use Rattle.bean_replay.specs.declared.booking.Booking.TheVariants as booking
-use Rattle.bean_replay.specs.declared.booking.Draft.{Draft}
-use Rattle.bean_replay.specs.declared.booking.Draft.TheVariants as draft
+use Rattle.bean_replay.specs.Draft.{Draft}
+use Rattle.bean_replay.specs.Draft as draft
 use Rattle.bean_replay.specs.declared.booking.Kept.{Kept}
 use Rattle.bean_directives.specs.Small.{IsSmallTransaction}
 use Rattle.bean_directives.specs.SmallPart.{most, IsShort, IsShortCurrency, IsShortEntry}

@@ -26,8 +26,8 @@ use Rattle.bean_transactions.specs.Lined.{Setting}
 use Rattle.bean_transactions.specs.Tried.{Tries, booked_legs}
 use Rattle.bean_holdings.specs.declared.posted.Posted.{Posted}
 use Rattle.bean_transactions.specs.declared.stop.LineFault.{LineFault}
-use Rattle.bean_replay.specs.declared.booking.Draft.{Draft}
-use Rattle.bean_replay.specs.declared.booking.Draft.TheVariants as draft
+use Rattle.bean_replay.specs.Draft.{Draft}
+use Rattle.bean_replay.specs.Draft as draft
 use Rattle.bean_replay.specs.declared.written.WrittenParts.{WrittenParts as Written}
 
 -- what is booked, in the order of the directives; what pads and balances see, the latest first; and

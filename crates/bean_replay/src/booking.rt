@@ -21,12 +21,3 @@ pub enum Booking<'a> {
     /// A pad, with what comes of it.
     Pad(Apart<NotedPad<'a>>),
 }
-
-/// What is booked of a directive, while it isn't known what comes of a pad.
-#[derive(Drop)]
-pub enum Draft<'a> {
-    /// A transaction that is kept.
-    Transaction(Kept<'a>),
-    /// The place of a pad.
-    Pad,
-}

@@ -11,8 +11,8 @@ use std::alloc::AllocError;
 pub trait Bookings<'a> {
     ghost use Rattle.bean_replay.specs.Small.{IsSmallKept};
     ghost use Rattle.bean_replay.specs.Stand.{postings_of};
-    ghost use Rattle.bean_replay.specs.declared.booking.Draft.{Draft};
-    ghost use Rattle.bean_replay.specs.declared.booking.Draft.TheVariants as draft;
+    ghost use Rattle.bean_replay.specs.Draft.{Draft};
+    ghost use Rattle.bean_replay.specs.Draft as draft;
     ghost use Rattle.limits.specs.declared.counts.TheConstants.{MOST_POSTINGS};
 
     /// It has taken these bookings, and no others.

@@ -11,11 +11,11 @@ ghost use Rattle.bean_loaded.specs.declared.placed.Placed as places;
 ghost use Rattle.bean_reductions.specs.declared.reduction.Method.{Method};
 ghost use Rattle.bean_replay.specs.Booker.{IsLed, IsStanding, IsWritten, Stands, Wherever, asks};
 ghost use Rattle.bean_replay.specs.Booker.{draft_of, drafts_in, pad_in};
+ghost use Rattle.bean_replay.specs.Draft as draft;
 ghost use Rattle.bean_replay.specs.Small.{IsSmallDraft};
 ghost use Rattle.bean_replay.specs.Stand as spec;
 ghost use Rattle.bean_replay.specs.Stand.{IsFull, IsStepBy, Stand, postings_of};
 ghost use Rattle.bean_replay.specs.Watched.{IsWatched};
-ghost use Rattle.bean_replay.specs.declared.booking.Draft as drafts;
 
 use crate::booker::Booker;
 use crate::booking::Kept;
@@ -37,9 +37,9 @@ fn hand_over<'a, S: Bookings<'a>>(
     postings: Option<List<Posted<'a>>>,
 ) -> Result<(), AllocError>
     requires small { AllByRecursion IsSmallDraft (drafts_in (draft_of written postings)) }
-    requires room { (ds : List drafts.Draft) × S.has_taken to.old ds
+    requires room { (ds : List draft.Draft) × S.has_taken to.old ds
         × (length (postings_of (ds ++ drafts_in (draft_of written postings))) ≤ MOST_POSTINGS) }
-    ensures taken { (ds : List drafts.Draft) → S.has_taken to.old ds → OnOk result
+    ensures taken { (ds : List draft.Draft) → S.has_taken to.old ds → OnOk result
         (S.has_taken to.new (ds ++ drafts_in (draft_of written.entry postings.entry))) }
     ensures standing { Wherever booker.old (λ m past st. IsStanding m past st booker.new) }
     ensures asks { asks booker.new ≡ asks booker.old }
@@ -87,7 +87,7 @@ fn take_transaction<'a, S: Bookings<'a>>(
 
 /// Hands over the place of a directive, if it is a pad.
 fn hand_pad<'a, S: Bookings<'a>>(to: &mut S, kind: &DirectiveKind<'a>) -> Result<(), AllocError>
-    ensures { (ds : List drafts.Draft) → S.has_taken to.old ds
+    ensures { (ds : List draft.Draft) → S.has_taken to.old ds
         → OnOk result (S.has_taken to.new (ds ++ drafts_in (pad_in kind.now))) }
 {
     match kind {

@@ -49,7 +49,7 @@ mod steps;
 mod written;
 
 pub use booked::{Booked, book_directives};
-pub use booking::{Booking, Draft, Kept};
+pub use booking::{Booking, Kept};
 pub use bookings::Bookings;
 pub use cause::BookCause;
 pub use laws::one_booking;

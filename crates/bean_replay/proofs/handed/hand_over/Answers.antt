@@ -5,7 +5,7 @@ use Rattle.limits.specs.declared.counts.TheConstants.{MOST_POSTINGS}
 use Rattle.bean_replay.specs.Booker.{draft_of, drafts_in}
 use Rattle.bean_replay.specs.Small.{IsSmallDraft}
 use Rattle.bean_replay.specs.Stand.{postings_of}
-use Rattle.bean_replay.specs.declared.booking.Draft.TheVariants as draft
+use Rattle.bean_replay.specs.Draft as draft
 use Rattle.bean_replay.proofs.ShownFacts.{count_more}
 use Rattle.bean_replay.proofs.handed.hand_over.Goals as goal
 

@@ -1,6 +1,6 @@
 use Rattle.std.proofs.Common.{arith, ap, length}
 use Rattle.bean_replay.proofs.ShownFacts.{count_more}
-use Rattle.bean_replay.specs.declared.booking.Draft.TheVariants as draft
+use Rattle.bean_replay.specs.Draft as draft
 use Rattle.bean_book.proofs.counts.RowCountBookings.keep.Goals as goal
 
 pub returns : goal.returns

@@ -14,8 +14,8 @@ use Rattle.bean_transactions.specs.Tried.{booked_legs}
 use Rattle.bean_holdings.specs.declared.posted.Posted.{Posted}
 use Rattle.bean_replay.specs.Stand.{account_steps, posted_faults, postings_of}
 use Rattle.bean_replay.specs.Watched.{seen_of}
-use Rattle.bean_replay.specs.declared.booking.Draft.{Draft}
-use Rattle.bean_replay.specs.declared.booking.Draft.TheVariants as draft
+use Rattle.bean_replay.specs.Draft.{Draft}
+use Rattle.bean_replay.specs.Draft as draft
 use Rattle.bean_replay.proofs.ShownFacts.{count_more, postings_more, shown_more}
 use Rattle.bean_replay.proofs.StepFacts.{as_booked}
 use Rattle.bean_replay.proofs.booker.Booker.keep.Goals as goal

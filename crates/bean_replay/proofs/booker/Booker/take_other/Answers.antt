@@ -17,7 +17,7 @@ use Rattle.bean_replay.specs.Stand.{IsStepBy, account_step, account_steps}
 use Rattle.bean_replay.specs.Stand.{place_of, postings_of, steps_of_postings}
 use Rattle.bean_replay.specs.Stand.{with_balance, with_faults, with_pad}
 use Rattle.bean_replay.specs.Watched.{is_watching, unseen_of}
-use Rattle.bean_replay.specs.declared.booking.Draft.TheVariants as draft
+use Rattle.bean_replay.specs.Draft as draft
 use Rattle.bean_replay.proofs.ShownFacts.{count_more, postings_more}
 use Rattle.bean_replay.proofs.TakeFacts.{later, no_pad, other}
 use Rattle.bean_replay.proofs.booker.Booker.take_other.Goals as goal
