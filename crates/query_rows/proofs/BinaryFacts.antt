@@ -1,6 +1,6 @@
 -- Operations on two values keep shapes.
 use Rattle.std.proofs.Common.{◌≡◌, ℕ, ◌+◌, ◌-◌, ◌*◌, ◌^◌, ◌≤◌, max, ℤ, pos, ◌+ℤ◌, ◌-ℤ◌, ◌*ℤ◌, Bool}
-use Rattle.std.proofs.Common.{true, false, cond, ◌&&◌, ◌||◌, List, Ok, Err, eqb, refl, sym, ap, ◌∙◌}
+use Rattle.std.proofs.Common.{true, false, cond, ◌&&◌, List, Ok, Err, eqb, refl, sym, ap, ◌∙◌}
 use Rattle.std.proofs.Common.{subst}
 use Rattle.std.proofs.Common.{arith, not}
 use Rattle.std.specs.Int.RustNames.{unsigned_abs}
@@ -12,7 +12,7 @@ use Rattle.bean_base.specs.declared.days.Day as day
 use Rattle.query_values.specs.Arithmetic.{difference_of, product_of, sum_of}
 use Rattle.query_values.specs.Equality.{same}
 use Rattle.query_values.specs.Held.{checked}
-use Rattle.query_values.specs.Operand.{are_addable, are_alike, are_comparable, are_in_order}
+use Rattle.query_values.specs.Operand.{are_addable, are_comparable, are_in_order}
 use Rattle.query_values.specs.Operand.{is_number, is_set, is_text, may_binary}
 use Rattle.query_values.specs.Operation.{binary_value, is_member}
 use Rattle.query_values.specs.Order.{is_at_most, is_less}
@@ -28,7 +28,7 @@ use Rattle.query_rows.specs.declared.shape.Misfit.TheVariants.{Kind}
 use Rattle.query_rows.specs.declared.shape.Shape.{Shape}
 use Rattle.query_rows.specs.declared.shape.Shape.TheVariants as shape
 use Rattle.query_rows.proofs.FittingFacts.{fits}
-use Rattle.query_rows.proofs.ShapeCases.{truth_cases, text_cases, day_cases, set_cases}
+use Rattle.query_rows.proofs.ShapeCases.{truth_cases, text_cases, day_cases}
 use Rattle.query_rows.proofs.ShapeCases.{number_cases}
 use Rattle.query_rows.proofs.UnaryFacts.{gives_truth, set_is, text_is}
 

@@ -1,17 +1,16 @@
 -- What lies in a shape that fits can be held.
-use Rattle.std.proofs.Common.{◌≡◌, ℕ, ◌^◌, ◌<◌, ◌≤◌, ℤ, Bool, true, false, cond, ◌&&◌, List, Ok}
+use Rattle.std.proofs.Common.{◌≡◌, ℕ, ◌^◌, ◌<◌, ◌≤◌, ℤ, Bool, true, false, cond, ◌&&◌, Ok}
 use Rattle.std.proofs.Common.{Err}
 use Rattle.std.proofs.Common.{Some, None, refl, sym, subst, arith}
 use Rattle.std.specs.Prelude.{nat_le, nat_lt}
 use Rattle.std.specs.Int.RustNames.{unsigned_abs}
 use Rattle.std.specs.List.{list_all}
-use Rattle.std.proofs.lemmas.Bool.{and_parts, and_from, ltb-true, leb-true, lt-ltb, le-leb}
+use Rattle.std.proofs.lemmas.Bool.{and_parts, and_from, ltb-true, lt-ltb}
 use Rattle.bean_lots.specs.declared.lot.Position.{Position}
 use Rattle.query_values.specs.Held as values
 use Rattle.query_values.specs.Held.{checked, has_count}
 use Rattle.query_terms.specs.WideCount.{is_wide}
 use Rattle.query_values.specs.declared.value.Value.{Value}
-use Rattle.query_values.specs.declared.value.Value.TheVariants as value
 use Rattle.query_rows.specs.Keeping.{Has}
 use Rattle.query_rows.specs.Mass.{units_mass}
 use Rattle.query_rows.specs.Shape.{LiesIn, fitting, is_held, is_most}

@@ -1,9 +1,9 @@
 -- What is gathered keeps shapes.
-use Rattle.std.proofs.Common.{◌≡◌, ℕ, ◌+◌, ◌*◌, ◌^◌, ◌<◌, ◌≤◌, ℤ, pos, ◌+ℤ◌, Bool, true, false}
+use Rattle.std.proofs.Common.{◌≡◌, ℕ, ◌+◌, ◌*◌, ◌≤◌, ℤ, ◌+ℤ◌, Bool, true, false}
 use Rattle.std.proofs.Common.{cond, not}
-use Rattle.std.proofs.Common.{◌&&◌, List, [], ◌∷◌, length, Option, Some, None, Ok, Err, eqb, refl}
+use Rattle.std.proofs.Common.{List, [], ◌∷◌, length, Some, None, Ok, Err, eqb, refl}
 use Rattle.std.proofs.Common.{sym}
-use Rattle.std.proofs.Common.{ap, ◌∙◌, subst, arith, suc}
+use Rattle.std.proofs.Common.{ap, subst, arith, suc}
 use Rattle.std.specs.Int.RustNames.{unsigned_abs}
 use Rattle.std.proofs.Math.Nat.{mul-le-mul, mul-le-mul_right}
 use Rattle.std.proofs.lemmas.Bool.{eqb-true, eq-eqb}
@@ -16,7 +16,6 @@ use Rattle.query_values.specs.Held.{checked}
 use Rattle.query_values.specs.Operand.{are_in_order}
 use Rattle.query_values.specs.Operation.{whole}
 use Rattle.query_values.specs.Order.{is_less, is_null}
-use Rattle.query_holdings.specs.Total.{total_from}
 use Rattle.query_values.specs.declared.operation.Aggregate.{Aggregate}
 use Rattle.query_values.specs.declared.operation.Aggregate.TheVariants as aggregate
 use Rattle.query_values.specs.declared.value.Value.{Value}
@@ -32,7 +31,7 @@ use Rattle.query_rows.specs.declared.shape.Shape.TheVariants as shape
 use Rattle.query_rows.proofs.BinaryFacts.{are_told}
 use Rattle.query_rows.proofs.FittingFacts.{fits}
 use Rattle.query_rows.proofs.MassFacts.{total_units, total_values}
-use Rattle.query_rows.proofs.OrderFacts.{OfPairs, below_cases}
+use Rattle.query_rows.proofs.OrderFacts.{below_cases}
 use Rattle.query_rows.proofs.RisingFacts.{both_if, fitting_below}
 use Rattle.query_rows.proofs.ShapeCases.{number_cases, amount_cases, position_cases}
 

@@ -1,26 +1,13 @@
 -- Being below is an order, of which joins are the least.
-use Rattle.std.proofs.Common.{◌≡◌, ℕ, ◌+◌, ◌-◌, ◌*◌, ◌^◌, ◌<◌, ◌≤◌, max, Bool, true, false, cond}
-use Rattle.std.proofs.Common.{◌&&◌}
-use Rattle.std.proofs.Common.{List, [], ◌∷◌, Option, Some, None, Ok, Err, eqb, refl, sym, ap, ◌∙◌}
+use Rattle.std.proofs.Common.{◌≡◌, ℕ, ◌-◌, ◌≤◌, max, Bool, true, false, cond}
+use Rattle.std.proofs.Common.{Some, None, eqb, refl, sym, ap}
 use Rattle.std.proofs.Common.{subst}
 use Rattle.std.proofs.Common.{arith}
-use Rattle.std.specs.Prelude.{nat_le}
-use Rattle.std.specs.List.{list_all}
-use Rattle.std.proofs.Math.Nat.{mul-le-mul, mul-le-mul_left, mul-le-mul_right}
-use Rattle.std.proofs.lemmas.Bool.{and_parts, and_from, eq-eqb, eqb-true, ltb-true, lt-ltb}
-use Rattle.query_values.specs.Unary as unary
-use Rattle.query_values.specs.declared.operation.Binary.{Binary}
-use Rattle.query_values.specs.declared.operation.Binary.TheVariants as binary
+use Rattle.std.proofs.lemmas.Bool.{eq-eqb, eqb-true}
 use Rattle.query_values.specs.declared.value.Value.{Value}
-use Rattle.query_values.specs.declared.value.Value.TheVariants as value
-use Rattle.query_rows.specs.Keeping.{Under}
-use Rattle.query_rows.specs.Rules as rule
-use Rattle.query_rows.specs.Rules.{unary_shape, binary_shape}
-use Rattle.query_rows.specs.Shape.{IsBelow, LiesIn, fitting, is_held, is_most, joined}
-use Rattle.query_rows.specs.declared.shape.Misfit.TheVariants.{Kind, TooWide}
+use Rattle.query_rows.specs.Shape.{IsBelow, LiesIn, joined}
 use Rattle.query_rows.specs.declared.shape.Shape.{Shape}
 use Rattle.query_rows.specs.declared.shape.Shape.TheVariants as shape
-use Rattle.limits.specs.declared.counts.TheConstants.{LARGEST_TEXT}
 use Rattle.query_rows.proofs.ShapeCases.{number_cases, amount_cases, position_cases}
 use Rattle.query_rows.proofs.ShapeCases.{inventory_cases}
 

@@ -1,5 +1,5 @@
 -- Of lesser shapes the rules give lesser ones.
-use Rattle.std.proofs.Common.{◌≡◌, ℕ, ◌+◌, ◌-◌, ◌*◌, ◌^◌, ◌<◌, ◌≤◌, max, Bool, true, false, cond}
+use Rattle.std.proofs.Common.{◌≡◌, ℕ, ◌+◌, ◌-◌, ◌*◌, ◌^◌, ◌≤◌, max, Bool, true, false, cond}
 use Rattle.std.proofs.Common.{◌&&◌}
 use Rattle.std.proofs.Common.{List, [], ◌∷◌, Ok, Err, eqb, refl, sym, ap, ◌∙◌, subst, arith}
 use Rattle.std.specs.Prelude.{nat_le}
@@ -19,7 +19,7 @@ use Rattle.query_rows.specs.declared.shape.Misfit.TheVariants.{Kind, TooWide}
 use Rattle.query_rows.specs.declared.shape.Shape.{Shape}
 use Rattle.query_rows.specs.declared.shape.Shape.TheVariants as shape
 use Rattle.limits.specs.declared.counts.TheConstants.{LARGEST_TEXT}
-use Rattle.query_rows.proofs.OrderFacts.{OfPairs, below_cases, reflexive}
+use Rattle.query_rows.proofs.OrderFacts.{below_cases, reflexive}
 
 -- ---- what fits
 

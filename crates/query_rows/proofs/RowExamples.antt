@@ -1,9 +1,9 @@
 -- A few rows, computed.
-use Rattle.std.proofs.Common.{◌≡◌, ℕ, ℤ, pos, Bool, true, false, List, [], ◌∷◌, Some, None, codes}
+use Rattle.std.proofs.Common.{◌≡◌, ℕ, pos, Bool, true, false, List, [], ◌∷◌, Some, None, codes}
 use Rattle.std.proofs.Common.{refl}
 use Rattle.query_values.specs.declared.value.Value.{Value}
 use Rattle.query_values.specs.declared.value.Value.TheVariants.{Null, Number, Text}
-use Rattle.query_rows.specs.FinalRows.{Ranked, Finish, comes_before, once_if, shown_of}
+use Rattle.query_rows.specs.FinalRows.{Ranked, Finish, comes_before}
 use Rattle.query_rows.specs.Grouping.{groups_of}
 use Rattle.query_rows.specs.Row.{MetaText, Row, any_text}
 use Rattle.query_rows.proofs.FinalRowsFacts.{final_of}

@@ -4,9 +4,8 @@ use Rattle.std.specs.Int.RustNames.{unsigned_abs}
 use Rattle.std.specs.List.{AllByRecursion}
 use Rattle.bean_base.specs.declared.days.Day as day
 use Rattle.bean_lots.specs.declared.lot.Key.{Key}
-use Rattle.bean_lots.specs.declared.lot.Position as entry
 use Rattle.query_holdings.specs.Total.{cost_currency}
-use Rattle.query_values.specs.declared.bag.Bag.{Bag}
+use Rattle.query_bags.specs.declared.bag.Bag.{Bag}
 use Rattle.query_values.specs.declared.value.Value.{Value}
 use Rattle.query_values.specs.declared.value.Value.TheVariants as value
 use Rattle.query_rows.specs.Mass.{units_mass, value_mass, value_of}

@@ -3,7 +3,6 @@ use Rattle.std.proofs.Common.{ℕ, List, [], ◌∷◌, Bool, true, false, cond,
 use Rattle.std.specs.Prelude.{bytes_eq}
 use Rattle.limits.specs.declared.bounds.Bounds.{Bounds}
 use Rattle.query_values.specs.Order.{is_null}
-use Rattle.query_values.specs.declared.value.Value.{Value}
 use Rattle.query_rows.specs.Shape.{LiesIn}
 use Rattle.query_rows.specs.declared.shape.Shape.TheVariants.{Text}
 use Rattle.query_rows.specs.Row.{MetaText, Row, text_under, text_or_null, posting_text}

@@ -1,7 +1,7 @@
 -- Operations on one value keep shapes.
-use Rattle.std.proofs.Common.{◌≡◌, ℕ, ◌-◌, ◌*◌, ◌^◌, ◌<◌, ◌≤◌, ℤ, pos, neg_ℤ, ◌*ℤ◌, Bool, true}
+use Rattle.std.proofs.Common.{◌≡◌, ℕ, ◌-◌, ◌*◌, ◌^◌, ◌≤◌, ℤ, pos, neg_ℤ, Bool, true}
 use Rattle.std.proofs.Common.{false}
-use Rattle.std.proofs.Common.{cond, ◌&&◌, List, [], ◌∷◌, length, max, Ok, Err, refl, sym, ap, ◌∙◌}
+use Rattle.std.proofs.Common.{cond, ◌&&◌, List, [], ◌∷◌, length, max, Ok, Err, refl, sym, ap}
 use Rattle.std.proofs.Common.{subst, arith, not, zero, suc, ◌+◌, ◌||◌, map, Option, Some, None}
 use Rattle.std.specs.Prelude.{nat_le}
 use Rattle.std.specs.Str.{chars, chars_after, continuation_len, lead_bits}
@@ -19,7 +19,7 @@ use Rattle.std.specs.Int.RustNames.{unsigned_abs}
 use Rattle.std.specs.List.{list_all}
 use Rattle.std.proofs.Math.Nat.{mul-le-mul_right}
 use Rattle.std.proofs.lemmas.Int.{ints, unsigned_abs-mul}
-use Rattle.std.proofs.lemmas.Bool.{and_parts, and_from, leb-true, le-leb}
+use Rattle.std.proofs.lemmas.Bool.{and_parts, and_from}
 use Rattle.bean_base.specs.Decimal.{scaled}
 use Rattle.query_values.specs.Arithmetic.{aligned, negative_of, magnitude_of}
 use Rattle.query_values.specs.Held.{checked}

@@ -1,5 +1,5 @@
 -- What shapes promise of operations.
-use Rattle.std.specs.Prelude.{◌≡◌, ℕ, ◌≤◌, true, List, length, Option, Some, None, Result, Ok, Err}
+use Rattle.std.specs.Prelude.{◌≡◌, ℕ, ◌≤◌, true, List, length, Option, Some, None, Ok, Err}
 use Rattle.std.specs.List.{AllByRecursion}
 use Rattle.query_values.specs.Aggregate.{aggregate_of, may_take}
 use Rattle.query_values.specs.Held.{checked}
@@ -12,7 +12,6 @@ use Rattle.query_values.specs.declared.operation.Binary.{Binary}
 use Rattle.query_values.specs.declared.value.Value.{Value}
 use Rattle.query_rows.specs.Rules.{Ruled, unary_shape, binary_shape, aggregate_shape}
 use Rattle.query_rows.specs.Shape.{LiesIn, IsBelow, joined}
-use Rattle.query_rows.specs.declared.shape.Misfit.{Misfit}
 use Rattle.query_rows.specs.declared.shape.Shape.{Shape}
 
 -- where there is a shape, there is a value, and it is of that shape

@@ -19,7 +19,7 @@ use Rattle.bean_lots.specs.declared.lot.Position as entry
 use Rattle.query_values.proofs.NumberOrder as numbers
 use Rattle.query_values.specs.Equality.{same, same_number, same_truth, agree_at, same_bag}
 use Rattle.query_values.specs.Order.{kind_rank}
-use Rattle.query_values.specs.declared.bag.Bag.{Bag}
+use Rattle.query_bags.specs.declared.bag.Bag.{Bag}
 use Rattle.query_values.specs.declared.value.Value.{Value}
 use Rattle.query_values.specs.declared.value.Value.TheVariants.{Null, Truth, Number, Text, Day, Set}
 use Rattle.query_values.specs.declared.value.Value.TheVariants.{Amount, Position, Inventory}

@@ -8,7 +8,7 @@ use Rattle.query_values.specs.Operand.{are_in_order}
 use Rattle.query_values.specs.Operation.{whole}
 use Rattle.query_values.specs.Order.{is_null, is_less}
 use Rattle.query_holdings.specs.Total.{bare, total_from}
-use Rattle.query_values.specs.declared.bag.Bag.{Bag}
+use Rattle.query_bags.specs.declared.bag.Bag.{Bag}
 use Rattle.query_values.specs.declared.operation.Aggregate.{Aggregate}
 use Rattle.query_values.specs.declared.operation.Aggregate.TheVariants.{CountRows, Count, Sum}
 use Rattle.query_values.specs.declared.operation.Aggregate.TheVariants.{SumInventory, First, Last}

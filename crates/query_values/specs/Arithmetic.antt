@@ -2,7 +2,7 @@
 use Rattle.std.specs.Prelude.{ℕ, ◌+◌, max, pos, neg_ℤ, ◌+ℤ◌, ◌-ℤ◌, ◌*ℤ◌}
 use Rattle.std.specs.Int.RustNames.{unsigned_abs}
 use Rattle.bean_base.specs.Decimal.{scaled}
-use Rattle.query_values.specs.Bag.{negative_bag}
+use Rattle.query_bags.specs.Bag.{negative_bag}
 use Rattle.query_values.specs.declared.value.Value.{Value}
 use Rattle.query_values.specs.declared.value.Value.TheVariants.{Null, Number, Amount, Position}
 use Rattle.query_values.specs.declared.value.Value.TheVariants.{Inventory}

@@ -8,7 +8,7 @@ use Rattle.bean_base.specs.Decimal.{scaled}
 use Rattle.bean_lots.specs.Inventory.{count_of}
 use Rattle.bean_lots.specs.Lot.{same_key, same_text}
 use Rattle.bean_lots.specs.declared.lot.Position.{Position}
-use Rattle.query_values.specs.declared.bag.Bag.{Bag}
+use Rattle.query_bags.specs.declared.bag.Bag.{Bag}
 use Rattle.query_values.specs.declared.value.Value.{Value}
 use Rattle.query_values.specs.declared.value.Value.TheVariants.{Null, Truth, Number, Text, Day, Set}
 use Rattle.query_values.specs.declared.value.Value.TheVariants.{Amount, Inventory}

@@ -5,7 +5,7 @@ use Rattle.limits.specs.declared.counts.TheConstants.{MOST_PLACES}
 use Rattle.query_terms.specs.WideCount.{is_wide}
 use Rattle.bean_lots.specs.declared.lot.Position as entry
 use Rattle.query_holdings.specs.Total.{is_count}
-use Rattle.query_values.specs.declared.bag.Bag.{Bag}
+use Rattle.query_bags.specs.declared.bag.Bag.{Bag}
 use Rattle.query_values.specs.declared.value.Value.{Value}
 use Rattle.query_values.specs.declared.value.Value.TheVariants.{Number, Amount, Position, Inventory}
 

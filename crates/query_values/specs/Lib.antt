@@ -2,8 +2,6 @@ pub mod TextSet
 pub mod Pattern
 pub mod PatternCause
 pub mod Component
-pub mod Bag
-pub mod Own
 pub mod Equality
 pub mod Order
 pub mod Arithmetic

@@ -11,7 +11,7 @@ use Rattle.query_values.specs.Component.{root_part, parent_part, leaf_part, root
 use Rattle.query_values.specs.Equality.{same}
 use Rattle.query_values.specs.Order.{is_null, is_less, is_at_most}
 use Rattle.query_values.specs.Pattern.{is_found}
-use Rattle.query_values.specs.Bag.{bag_units, bag_cost}
+use Rattle.query_bags.specs.Bag.{bag_units, bag_cost}
 use Rattle.query_holdings.specs.Total.{cost_currency, cost_count}
 use Rattle.query_values.specs.Unary as unary
 use Rattle.query_values.specs.declared.operation.Binary.{Binary}

@@ -11,12 +11,12 @@ ghost use Rattle.query_values.specs.Order.{is_at_most, is_less, order_of};
 ghost use Rattle.query_values.specs.Order as order_spec;
 ghost use Rattle.query_values.specs.Operation as operation;
 
-use crate::bag::OwnBag;
 pub use crate::number::compare_numbers;
 use crate::number::same_number;
 use crate::value::Value;
 use bean_base::Slice;
 use bean_lots::Key;
+use query_bags::OwnBag;
 use query_holdings::{BagKey, Holdings};
 use std::cmp::Ordering;
 

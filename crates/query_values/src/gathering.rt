@@ -5,10 +5,10 @@ ghost use Rattle.query_values.specs.Held.{is_held};
 ghost use Rattle.query_values.specs.declared.operation.Aggregate.{Aggregate};
 ghost use Rattle.query_values.specs.declared.value.Value.{Value};
 
-use crate::bag::{Bag, OwnBag};
 use crate::comparison::{is_null, less};
 use crate::operation::Aggregate;
 use crate::value::Value;
+use query_bags::{Bag, OwnBag};
 use query_holdings::{BagKey, Holding};
 use std::alloc::{AllocError, Global};
 

@@ -40,7 +40,6 @@
 #![tactic(auto)]
 
 pub mod arithmetic;
-mod bag;
 mod cause;
 pub mod comparison;
 mod component;
@@ -53,11 +52,11 @@ mod pattern;
 mod text_set;
 mod value;
 
-pub use bag::{Bag, OwnBag};
 pub use cause::PatternCause;
 pub use gathering::share_keys;
 pub use operation::{Aggregate, Binary};
 pub use pattern::{Finder, Pattern};
+pub use query_bags::{Bag, OwnBag};
 pub use query_holdings::{BagKey, Entry, Holding, Holdings, InOrder, Lent};
 pub use text_set::TextSet;
 pub use value::Value;

@@ -3,10 +3,10 @@ ghost use Rattle.std.specs.Prelude.{◌≡◌, IfOk, IsTrue};
 ghost use Rattle.query_values.specs.Arithmetic.{negative_of};
 ghost use Rattle.query_values.specs.Held.{is_held};
 
-use crate::bag::OwnBag;
 use crate::text_set::TextSet;
 use bean_base::{Currency, Day, Slice};
 use bean_lots::Key;
+use query_bags::OwnBag;
 use query_holdings::Lent;
 use std::alloc::AllocError;
 

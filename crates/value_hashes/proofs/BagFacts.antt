@@ -9,7 +9,7 @@ use Rattle.bean_lots.specs.Lot.{same_key}
 use Rattle.bean_lots.specs.declared.lot.Key.{Key}
 use Rattle.bean_lots.specs.declared.lot.Position.{Position}
 use Rattle.query_values.specs.Equality.{agree_at, same_bag, same_number}
-use Rattle.query_values.specs.declared.bag.Bag.{Bag}
+use Rattle.query_bags.specs.declared.bag.Bag.{Bag}
 use Rattle.value_hashes.proofs.NumberFacts.{least_alike, nothing_left}
 use Rattle.value_hashes.specs.Fed.{mark_by, mark_of, marks_beside}
 

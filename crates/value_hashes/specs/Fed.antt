@@ -12,7 +12,7 @@ use Rattle.bean_lots.specs.declared.lot.Key.{Key}
 use Rattle.bean_lots.specs.declared.lot.Lot.{Lot}
 use Rattle.bean_lots.specs.declared.lot.Position.{Position}
 use Rattle.query_rows.specs.Same.{same_values}
-use Rattle.query_values.specs.declared.bag.Bag.{Bag}
+use Rattle.query_bags.specs.declared.bag.Bag.{Bag}
 use Rattle.query_values.specs.declared.value.Value.{Value}
 use Rattle.query_values.specs.declared.value.Value.TheVariants.{Null, Truth, Number, Text, Day, Set}
 use Rattle.query_values.specs.declared.value.Value.TheVariants.{Amount, Inventory}

@@ -2,11 +2,12 @@ use Rattle.std.proofs.Common.{◌+ℤ◌, IsTrue, to_z, of_z, sym, ap, subst, �
 use Rattle.std.specs.Int.{w128}
 use Rattle.std.specs.Int.RustNames.{FitsSigned}
 use Rattle.bean_lots.specs.Inventory.{count_of}
+use Rattle.query_bags.proofs.SumFacts.{both, fits_sum}
 use Rattle.query_values.specs.Aggregate.{gathered}
 use Rattle.query_values.specs.Held.{is_held}
 use Rattle.query_holdings.specs.Total.{bare_key}
 use Rattle.query_values.specs.declared.value.Value.TheVariants.{Inventory}
-use Rattle.query_values.proofs.TotalFacts.{both, within, fits_sum}
+use Rattle.query_values.proofs.TotalFacts.{within}
 use Rattle.query_values.proofs.gathering.add_entry.Goals as goal
 
 pub add-requires : goal.add-requires

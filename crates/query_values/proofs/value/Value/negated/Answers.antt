@@ -1,7 +1,8 @@
 use Rattle.std.proofs.Common.{IsTrue, subst}
+use Rattle.query_bags.proofs.SumFacts.{both}
 use Rattle.query_values.specs.Arithmetic.{negative_of}
 use Rattle.query_values.specs.Held.{is_held}
-use Rattle.query_values.proofs.TotalFacts.{both, negatable}
+use Rattle.query_values.proofs.TotalFacts.{negatable}
 use Rattle.query_values.proofs.value.Value.negated.Goals as goal
 
 pub negated-requires : goal.negated-requires

@@ -5,8 +5,8 @@ use Rattle.std.specs.Int.RustNames.{FitsSigned}
 use Rattle.std.proofs.lemmas.Int.{to_z-of_z}
 use Rattle.bean_lots.specs.Inventory.{added, count_of, position_of}
 use Rattle.query_holdings.specs.Total.{bare_key, without_lot}
-use Rattle.query_values.proofs.TotalFacts.{IsUpTo, one_more, none_yet, all, fits_sum}
-use Rattle.query_values.proofs.bag.units_in.Goals as goal
+use Rattle.query_bags.proofs.SumFacts.{IsUpTo, one_more, none_yet, all, fits_sum}
+use Rattle.query_bags.proofs.bag.units_in.Goals as goal
 
 pub loop-key-init : goal.loop-key-init
 loop-key-init c =

@@ -6,8 +6,8 @@ ghost use Rattle.std.specs.Int.RustNames.{FitsSigned};
 ghost use Rattle.bean_lots.specs.Inventory.{IsInventory, MayBeNegated, count_of};
 ghost use Rattle.query_holdings.specs.Total.{adds_up, at_cost, cost_total, units_total};
 ghost use Rattle.query_holdings.specs.Total.{without_lot};
-ghost use Rattle.query_values.specs.Bag.{bag_cost, bag_units, negative_bag, with_entry};
-ghost use Rattle.query_values.specs.Own.{bag_in};
+ghost use Rattle.query_bags.specs.Bag.{bag_cost, bag_units, negative_bag, with_entry};
+ghost use Rattle.query_bags.specs.Own.{bag_in};
 
 use query_holdings::{BagKey, Holding, Holdings, Kept, Lent};
 use std::alloc::{AllocError, Global};
@@ -33,6 +33,18 @@ impl Clone for Bag<'_> {
         Ok(Bag {
             places: self.places,
             held: self.held.clone()?,
+        })
+    }
+}
+
+impl<'r> Bag<'r> {
+    /// A copy whose positions are gone through alone: none is found quickly where they are many.
+    fn listed(&self) -> Result<Bag<'r>, AllocError>
+        ensures { IfOk result (λ b. b ≡ self.now) }
+    {
+        Ok(Bag {
+            places: self.places,
+            held: self.held.listed()?,
         })
     }
 }
@@ -86,8 +98,8 @@ impl Drop for OwnBag<'_> {
 }
 
 impl<'r> Model for OwnBag<'r> {
-    ghost use Rattle.query_values.specs.Own.{bag_in};
-    ghost use Rattle.query_values.specs.declared.bag.Bag.{Bag};
+    ghost use Rattle.query_bags.specs.Own.{bag_in};
+    ghost use Rattle.query_bags.specs.declared.bag.Bag.{Bag};
 
     ghost Value = { Bag };
 
@@ -107,29 +119,11 @@ fn few_of<'r>(bag: &Bag<'r>) -> Result<Option<Form<'r>>, AllocError>
     }))
 }
 
-/// A copy of a bag that can grow: in few bytes where that can be.
-fn copy_of<'r>(bag: &Bag<'r>) -> Result<Form<'r>, AllocError>
-    ensures { IfOk result (λ form. bag_in form ≡ bag.now) }
+/// A bag that can grow, in memory of its own.
+fn grown<'r>(bag: Bag<'r>) -> Result<Form<'r>, AllocError>
+    ensures { IfOk result (λ form. bag_in form ≡ bag.entry) }
 {
-    if let Some(form) = few_of(bag)? {
-        return Ok(form);
-    }
-    let alloc = bag.held.alloc();
-    Ok(Form::Grown(Box::new(alloc, bag.clone()?)?))
-}
-
-/// The same, where the copy is only gone through.
-fn listed_copy_of<'r>(bag: &Bag<'r>) -> Result<Form<'r>, AllocError>
-    ensures { IfOk result (λ form. bag_in form ≡ bag.now) }
-{
-    if let Some(form) = few_of(bag)? {
-        return Ok(form);
-    }
-    let copy = Bag {
-        places: bag.places,
-        held: bag.held.listed()?,
-    };
-    Ok(Form::Grown(Box::new(bag.held.alloc(), copy)?))
+    Ok(Form::Grown(Box::new(bag.held.alloc(), bag)?))
 }
 
 impl Clone for OwnBag<'_> {
@@ -137,7 +131,10 @@ impl Clone for OwnBag<'_> {
 
     fn clone(&self) -> Result<Self, AllocError> {
         let form = match &self.form {
-            Form::Grown(bag) => copy_of(bag)?,
+            Form::Grown(bag) => match few_of(bag)? {
+                Some(form) => form,
+                None => Form::Grown(bag.clone()?),
+            },
             Form::Kept { places, held } => Form::Kept {
                 places: *places,
                 held: held.clone()?,
@@ -161,8 +158,7 @@ fn grown_with<'r>(
 {
     let mut held = kept.grown()?;
     held.add(key, count)?;
-    let alloc = held.alloc();
-    Ok(Form::Grown(Box::new(alloc, Bag { places, held })?))
+    grown(Bag { places, held })
 }
 
 impl<'r> OwnBag<'r> {
@@ -180,12 +176,14 @@ impl<'r> OwnBag<'r> {
     pub fn listed(&self) -> Result<OwnBag<'r>, AllocError>
         ensures { IfOk result (λ b. b ≡ self.now) }
     {
-        match &self.form {
-            Form::Grown(bag) => Ok(OwnBag {
-                form: listed_copy_of(bag)?,
-            }),
-            Form::Kept { .. } => self.clone(),
-        }
+        let form = match &self.form {
+            Form::Grown(bag) => match few_of(bag)? {
+                Some(form) => form,
+                None => grown(bag.listed()?)?,
+            },
+            Form::Kept { .. } => return self.clone(),
+        };
+        Ok(OwnBag { form })
     }
 
     /// How many decimals its counts have.

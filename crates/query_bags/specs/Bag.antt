@@ -3,7 +3,7 @@ use Rattle.std.specs.Prelude.{◌+◌, map, ℤ}
 use Rattle.bean_lots.specs.Inventory.{added, negative_entry}
 use Rattle.bean_lots.specs.declared.lot.Key.{Key}
 use Rattle.query_holdings.specs.Total.{units_total, cost_total}
-use Rattle.query_values.specs.declared.bag.Bag.{Bag}
+use Rattle.query_bags.specs.declared.bag.Bag.{Bag}
 
 abbrev pub with_entry : Bag → Key → ℤ → Bag
 with_entry b k n = record { places = b.places; held = added b.held k n }

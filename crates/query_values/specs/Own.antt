@@ -1,8 +1,0 @@
--- The bag that lies in one form or the other.
-use Rattle.query_values.specs.declared.bag.Bag.{Bag}
-use Rattle.query_values.specs.declared.bag.Form.{Form}
-use Rattle.query_values.specs.declared.bag.Form.TheVariants.{Grown, Kept}
-
-abbrev pub bag_in : Form → Bag
-bag_in (Grown bag) = bag.value
-bag_in (Kept places held) = record { places = places; held = held }
