@@ -1,14 +1,16 @@
 -- Where a run stands in the filter, and where it stands when the filter went on.
 use Rattle.std.proofs.Common.{◌≡◌, ◌≢◌, ℕ, zero, suc, ◌+◌, ◌<◌, List, [], ◌∷◌, length, drop, cond}
-use Rattle.std.proofs.Common.{Option, Some, None, refl, sym, ap, subst, ◌∙◌, arith}
+use Rattle.std.proofs.Common.{Bool, true, false, Option, Some, None, refl, sym, ap, subst, ◌∙◌, arith}
 use Rattle.std.proofs.Common.{inl, inr}
 use Rattle.std.proofs.lemmas.Bool.{cases_lt, eq-eqb, ne_eqb}
-use Rattle.std.specs.Prelude.{slice_get}
-use Rattle.plain_machine.specs.PlainMachine.{steps}
+use Rattle.std.specs.Prelude.{nat_lt, slice_get}
+use Rattle.limits.specs.declared.counts.TheConstants.{MOST_VALUES}
+use Rattle.plain_machine.specs.PlainMachine.{judged, step, steps}
 use Rattle.plain_machine.specs.PlainMachine.{Fault, InFilter, Kept, Stand}
 use Rattle.plain_machine.specs.PlainMachine.{end_filter, filter_acts}
 use Rattle.plain_machine.specs.PlainMachine.{in_filter}
-use Rattle.plain_machine.specs.SectionRun.{Acts, Outcome, Standing, after_steps}
+use Rattle.plain_machine.specs.SectionRun.{Acts, Outcome, Standing, State, after_steps, moved}
+use Rattle.plain_machine.specs.SectionRun.{one_step, with_slots}
 use Rattle.plain_machine.specs.Loading.{value_acts}
 use Rattle.plain_machine.specs.SectionRun.{Stopped}
 use Rattle.query_code.specs.declared.instruction.Instruction.{Instruction}
@@ -19,12 +21,13 @@ use Rattle.query_sections.specs.Room.{AreInside, GoesSafely}
 use Rattle.query_sections.specs.Standing.{standing, state_in}
 use Rattle.query_sections.specs.declared.frame.Frame.{Frame}
 use Rattle.query_values.specs.declared.value.Value.{Value}
-use Rattle.query_runs.specs.Ends.{filter_ends}
+use Rattle.query_values.specs.declared.value.Value.TheVariants.{Truth}
+use Rattle.query_runs.specs.Ends.{filter_ends, passing}
 use Rattle.query_runs.specs.Stands.{Gathered, in_filter_at, keeps, kept_in, stand_of}
 use Rattle.query_runs.specs.Stands.{by_stage}
 use Rattle.query_runs.proofs.Turning.{AreGoing, goes_further, safe_further}
 use Rattle.plain_machine.specs.WholeRun.{is_going}
-use Rattle.query_runs.specs.Turns.{FilterWent, GoesOn, IsSafe, is_ready}
+use Rattle.query_runs.specs.Turns.{FilterWent, GoesOn, IsSafe, is_ready, true_load}
 use Rattle.query_runs.specs.declared.run.Run.{Run}
 use Rattle.query_runs.specs.declared.run.Stage.TheVariants as stage
 use Rattle.query_runs.proofs.Readiness.{stays_ready}
@@ -247,3 +250,71 @@ module _ (p : Parts) (rows : List Row) (m n : ℕ) (s t : Stand Gathered) (new :
       → filter_ends p (drop new.row rows) (kept_in new) new.frame.stack.values ≢ Fault
   end_fine room safe end fault =
       (safe_further p room m s t safe first.comes).never_faults n (sym (went.ended end) ∙ fault)
+
+-- ---- a filter that is TRUE alone
+
+module _ (p : Parts) (r : Row) (rest : List Row) (k : Kept Gathered) (s : State Value)
+    (is : p.code.filter ≡ true_load ∷ []) where
+  -- TRUE on top of what is there, where it has room
+  abbrev true_on_top : Bool → Outcome
+  true_on_top b = moved 1 (with_slots s.slots (cond b (Some (Truth true ∷ s.stack)) None))
+
+  true_pushed : step (keeps p) p (InFilter r rest k 0 s)
+      ≡ in_filter (keeps p) p r rest k (true_on_top (nat_lt (length s.stack) MOST_VALUES))
+  true_pushed =
+      ap (λ c. in_filter (keeps p) p r rest k (one_step c (filter_acts p r) (Standing 0 s))) is
+
+  true_alone : (xs : List Value) → end_filter (keeps p) p r rest k (Truth true ∷ xs) ≢ Fault
+      → end_filter (keeps p) p r rest k (Truth true ∷ xs) ≡ judged (keeps p) p r rest k (Some true)
+  true_alone [] fine = refl
+  true_alone (x ∷ xs) fine = absurd (fine refl)
+
+  true_ends : (b : Bool) → in_filter (keeps p) p r rest k (true_on_top b) ≢ Fault
+      → in_filter (keeps p) p r rest k (true_on_top b) ≡ judged (keeps p) p r rest k (Some true)
+  true_ends false fine = absurd (fine refl)
+  true_ends true fine = at_its_end ∙ true_alone s.stack (λ e. fine (at_its_end ∙ e))
+    where
+      at_its_end : in_filter (keeps p) p r rest k (true_on_top true)
+          ≡ end_filter (keeps p) p r rest k (Truth true ∷ s.stack)
+      at_its_end =
+          ap (λ b. cond b (end_filter (keeps p) p r rest k (Truth true ∷ s.stack))
+          (InFilter r rest k 1 (record { stack = Truth true ∷ s.stack; slots = s.slots })))
+          (eq-eqb 1 (length p.code.filter) (sym (ap length is)))
+
+  true_passes : step (keeps p) p (InFilter r rest k 0 s) ≢ Fault
+      → step (keeps p) p (InFilter r rest k 0 s) ≡ judged (keeps p) p r rest k (Some true)
+  true_passes fine =
+      true_pushed
+      ∙ true_ends (nat_lt (length s.stack) MOST_VALUES) (λ e. fine (true_pushed ∙ e))
+
+-- one step leads past the filter
+module _ (p : Parts) (rows : List Row) (run : Run) (room : ℕ) (f : InFilterAt p rows run 0)
+    (stage_is : run.stage ≡ stage.Filter) (is : p.code.filter ≡ true_load ∷ [])
+    (first : run.frame.place ≡ 0) (safe : IsSafe p (stand_of rows run) room) where
+  abbrev at_first : Stand Gathered
+  at_first = InFilter f.head (drop (run.row + 1) rows) (kept_in run) 0 (state_in run.frame)
+
+  stands_first : stand_of rows run ≡ at_first
+  stands_first =
+      ap (λ s. by_stage s rows run) stage_is ∙ ap (λ l. in_filter_at l run) f.is
+      ∙ ap (λ q. InFilter f.head (drop (run.row + 1) rows) (kept_in run) q (state_in run.frame))
+      first
+
+  pub passes_at_once : passing p (drop run.row rows) (kept_in run)
+      ≡ steps (keeps p) p 1 (stand_of rows run)
+  passes_at_once =
+      ap (λ l. passing p l (kept_in run)) f.is
+      ∙ sym (true_passes p f.head (drop (run.row + 1) rows) (kept_in run) (state_in run.frame) is
+      (λ e. safe.never_faults 1 (ap (step (keeps p) p) stands_first ∙ e)))
+      ∙ sym (ap (step (keeps p) p) stands_first)
+
+  pub passing_fine : passing p (drop run.row rows) (kept_in run) ≢ Fault
+  passing_fine fault = safe.never_faults 1 (sym passes_at_once ∙ fault)
+
+  pub goes_at_once : (u : Stand Gathered) → u ≡ passing p (drop run.row rows) (kept_in run)
+      → GoesOn p 1 (stand_of rows run) u
+  goes_at_once u same = record { comes = same ∙ passes_at_once; going = there }
+    where
+      there : (k : ℕ) → k < 1 → is_going (steps (keeps p) p k (stand_of rows run)) ≡ true
+      there zero lt = ap is_going stands_first
+      there (suc k) lt = absurd (omega arith)

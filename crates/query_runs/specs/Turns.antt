@@ -3,6 +3,9 @@ use Rattle.std.specs.Prelude.{◌≡◌, ◌≢◌, ◌<◌, ◌≤◌, ℕ, Lis
 use Rattle.plain_machine.specs.Depth.{outcome_of, values_in}
 use Rattle.plain_machine.specs.PlainMachine.{Stand, InFilter, InRow, InLast, Done, Fault, steps}
 use Rattle.plain_machine.specs.WholeRun.{is_going}
+use Rattle.query_code.specs.declared.instruction.Instruction.{Instruction}
+use Rattle.query_code.specs.declared.instruction.Instruction.TheVariants.{Push}
+use Rattle.query_code.specs.declared.instruction.Push.TheVariants.{True}
 use Rattle.query_code.specs.declared.program.Parts.{Parts}
 use Rattle.query_rows.specs.Row.{Row}
 use Rattle.query_runs.specs.Ends.{filter_ends}
@@ -44,3 +47,7 @@ pub record FilterWent (p : Parts) (rows : List Row) (made : ℕ) (old : Stand Ga
   pub stands : new.frame.place ≢ length p.code.filter
       → stand_of rows new ≡ steps (keeps p) p made old
   pub going : (k : ℕ) → k < made → is_going (steps (keeps p) p k old) ≡ true
+
+-- the instruction that is a filter by itself where all postings pass
+abbrev pub true_load : Instruction
+true_load = Push True

@@ -249,6 +249,7 @@ pub fn fails<'r>(input: &Inputs<'r, '_>, run: &mut Run<'r>) -> bool
 }
 
 /// Goes on at a posting that passes.
+#[inline(always)]
 pub fn pass<'r>(alloc: Global, input: &Inputs<'r, '_>, run: &mut Run<'r>) -> Result<(), AllocError>
     requires there { run.old.row < length (rows_in input.now) }
     requires fine { passing input.now.parts.now (drop run.old.row (rows_in input.now))

@@ -1,26 +1,36 @@
 //! Runs that go on, instruction by instruction.
-ghost use Rattle.std.specs.Prelude.{◌≡◌, ◌≢◌, true, false, ◌<◌, ◌≤◌, IfOk, length, map};
-ghost use Rattle.std.specs.Option.{option_copied};
+ghost use Rattle.std.specs.Prelude.{◌≡◌, ◌≢◌, true, false, ◌<◌, ◌≤◌, ◌∷◌, [], IfOk, OnOk, length, map};
+ghost use Rattle.std.specs.Prelude.{option_map};
 ghost use Rattle.plain_machine.specs.PlainMachine.{balance_in};
 ghost use Rattle.plain_machine.specs.Pool.{pattern_in};
 ghost use Rattle.query_runs.specs.Stands.{rows_in, stand_of};
-ghost use Rattle.query_runs.specs.Turns.{FilterWent, GoesOn, IsSafe, is_at_end};
+ghost use Rattle.query_sections.specs.Reading.{running_in};
+ghost use Rattle.query_runs.specs.Turns.{FilterWent, GoesOn, IsSafe, is_at_end, true_load};
 ghost use Rattle.query_runs.specs.declared.run.Stage.TheVariants as stage;
 
 use crate::ends::{end_last, end_row, fails, pass, start_filter, start_row};
 use crate::run::{Inputs, Run, Stage};
-use query_code::Mode;
+use query_code::{Instruction, Mode, Parts, Push};
 use query_sections as sections;
-use query_sections::{Loads, Section};
+use query_sections::{Loads, Running, Section, Source};
 use query_values::Value;
 use std::alloc::{AllocError, Global};
 
-/// The running inventory, where it may be read.
-fn readable<'s, 'r>(mode: Mode, running: &'s Value<'r>) -> Option<&'s Value<'r>>
-    ensures { option_copied result ≡ balance_in mode running.now }
+/// Whether a filter is TRUE alone, as where a query asks nothing of a posting.
+#[inline(always)]
+fn passes_all(filter: &[Instruction]) -> bool
+    ensures { result ≡ true → filter.now ≡ true_load ∷ [] }
 {
-    match mode {
-        Mode::Plain => Some(running),
+    matches!(filter, [Instruction::Push(Push::True)])
+}
+
+/// The running inventory, where it may be read. Where rows are told once its copies are compared.
+fn readable<'s, 'r>(parts: &Parts<'_>, running: &'s Value<'r>) -> Option<Running<'r, 's>>
+    ensures { option_map running_in result ≡ balance_in parts.now.mode running.now }
+{
+    match parts.mode {
+        Mode::Plain if parts.output.is_distinct => Some(Running::Compared(running)),
+        Mode::Plain => Some(Running::Listed(running)),
         Mode::Grouped => None,
     }
 }
@@ -52,11 +62,10 @@ fn at_posting<'r>(
 {
     let loads = Loads {
         schema: input.parts.bounds.schema,
-        posting: Some(input.ledger.row(run.row)),
-        running: None,
-        compares: false,
-        keys: &[],
-        aggregates: &[],
+        source: Source::Posting {
+            row: input.ledger.row(run.row),
+            running: None,
+        },
     };
     let made = sections::go_on(
         alloc,
@@ -67,6 +76,26 @@ fn at_posting<'r>(
         most,
     )?;
     Ok(made)
+}
+
+/// Goes on past a filter that is TRUE alone, which is one instruction.
+#[inline(always)]
+fn pass_at_once<'r>(
+    alloc: Global,
+    input: &Inputs<'r, '_>,
+    run: &mut Run<'r>,
+) -> Result<(), AllocError>
+    requires filter { input.now.parts.now.code.filter ≡ true_load ∷ [] }
+    requires stage { run.old.stage ≡ stage.Filter }
+    requires first { run.old.frame.place ≡ 0 }
+    requires safe { IsSafe input.now.parts.now (stand_of (rows_in input.now) run.old)
+        run.old.frame.stack.room }
+    ensures goes { OnOk result (GoesOn input.now.parts.now 1
+        (stand_of (rows_in input.now) run.old) (stand_of (rows_in input.now) run.new)) }
+    ensures finders { run.new.finders ≡ run.old.finders }
+    ensures room { run.new.frame.stack.room ≡ run.old.frame.stack.room }
+{
+    pass(alloc, input, run)
 }
 
 /// Goes on in the filter by so many instructions, from posting to posting while they don't pass,
@@ -93,6 +122,11 @@ pub fn filter_on<'r>(
         instructions: input.parts.code.filter.as_slice(),
         pool: input.parts.code.pool.as_slice(),
     };
+    // What most queries ask of a posting before all else needs no look at what it is.
+    if passes_all(section.instructions) && run.frame.place == 0 {
+        pass_at_once(alloc, input, run)?;
+        return Ok(1);
+    }
     let mut made = 0;
     while made < most {
         made += at_posting(alloc, input, &section, run, most - made)?;
@@ -137,11 +171,10 @@ pub fn row_on<'r>(
     };
     let loads = Loads {
         schema: input.parts.bounds.schema,
-        posting: Some(input.ledger.row(run.row)),
-        running: readable(input.parts.mode, &run.running),
-        compares: input.parts.output.is_distinct,
-        keys: &[],
-        aggregates: &[],
+        source: Source::Posting {
+            row: input.ledger.row(run.row),
+            running: readable(input.parts, &run.running),
+        },
     };
     let made = sections::go_on(
         alloc,
@@ -182,11 +215,10 @@ pub fn last_on<'r>(
     };
     let loads = Loads {
         schema: input.parts.bounds.schema,
-        posting: None,
-        running: None,
-        compares: false,
-        keys: run.groups.get(run.group).keys,
-        aggregates: run.groups.get(run.group).totals,
+        source: Source::Group {
+            keys: run.groups.get(run.group).keys,
+            aggregates: run.groups.get(run.group).totals,
+        },
     };
     let made = sections::go_on(
         alloc,

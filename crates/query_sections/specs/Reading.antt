@@ -1,28 +1,45 @@
 -- What the instructions of a section read.
-use Rattle.std.specs.Prelude.{◌≡◌, ◌==◌, ◌&&◌, Bool, false, true, length, option_map, List, Some, slice_index_or}
+use Rattle.std.specs.Prelude.{◌≡◌, true, option_map, List, [], Some, None}
 use Rattle.std.specs.List.{list_all}
-use Rattle.std.specs.Option.{option_copied}
+use Rattle.limits.specs.declared.bounds.Version.{Version}
 use Rattle.plain_machine.specs.Loading.{Loads, value_acts}
 use Rattle.plain_machine.specs.Pool.{members_in}
 use Rattle.plain_machine.specs.SectionRun.{Acts}
 use Rattle.posting_table.specs.Rows.{row_of}
 use Rattle.query_code.specs.declared.program.Constant.{Constant}
-use Rattle.query_code.specs.declared.instruction.Instruction.{Instruction}
-use Rattle.query_code.specs.declared.instruction.Instruction.TheVariants.{Push}
 use Rattle.query_code.specs.declared.instruction.Push as push_type
 use Rattle.query_code.specs.declared.instruction.Push.TheVariants as push
 use Rattle.query_sections.specs.declared.loads.Loads as loads
+use Rattle.query_sections.specs.declared.loads.Running.{Running}
+use Rattle.query_sections.specs.declared.loads.Running.TheVariants.{Compared, Listed}
+use Rattle.query_sections.specs.declared.loads.Source.{Source}
+use Rattle.query_sections.specs.declared.loads.Source.TheVariants.{Posting, Group}
 use Rattle.query_values.specs.Operand.{are_alike}
 use Rattle.query_values.specs.declared.value.Value.{Value}
 
-abbrev pub loads_of : loads.Loads → Loads
-loads_of l = record {
-  schema = l.schema;
-  row = option_map row_of (option_copied l.posting);
-  balance = option_copied l.running;
-  keys = l.keys.now;
-  aggregates = l.aggregates.now;
+-- the running inventory, whatever becomes of its copies
+abbrev pub running_in : Running → Value
+running_in (Compared running) = running.now
+running_in (Listed running) = running.now
+
+abbrev pub loads_at : Version → Source → Loads
+loads_at v (Posting row running) = record {
+  schema = v;
+  row = Some (row_of row.now);
+  balance = option_map running_in running;
+  keys = [];
+  aggregates = [];
 }
+loads_at v (Group keys aggregates) = record {
+  schema = v;
+  row = None;
+  balance = None;
+  keys = keys.now;
+  aggregates = aggregates.now;
+}
+
+abbrev pub loads_of : loads.Loads → Loads
+loads_of l = loads_at l.schema l.source
 
 abbrev pub acts_of : List Constant → loads.Loads → Acts Value
 acts_of pool l = value_acts pool (loads_of l)
@@ -38,14 +55,3 @@ IsOther push.False = ⊥
 IsOther (push.Const c) = ⊥
 IsOther (push.LoadColumn c) = ⊥
 IsOther p = Unit {0}
-
-abbrev pub true_load : Instruction
-true_load = Push push.True
-
-abbrev pub is_true_load : Instruction → Bool
-is_true_load (Push push.True) = true
-is_true_load i = false
-
--- TRUE alone
-abbrev pub is_true_alone : List Instruction → Bool
-is_true_alone code = length code == 1 && is_true_load (slice_index_or code 0 true_load)

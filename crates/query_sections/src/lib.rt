@@ -3,7 +3,8 @@
 //! ```text
 //! let mut finders = Finders::new(alloc, &patterns)?;      // one for each pattern of the pool
 //! let mut frame = Frame::new(alloc, depth)?;              // room for the whole stack, once
-//! let loads = Loads { schema, posting: Some(ledger.row(number)), .. };
+//! let source = Source::Posting { row: ledger.row(number), running: None };
+//! let loads = Loads { schema, source };
 //! let made = go_on(alloc, &loads, &section, &mut finders, &mut frame, 1000)?;
 //! if frame.place == section.instructions.len() { .. }     // frame.stack has what the section left
 //! ```
@@ -45,7 +46,7 @@ mod unary;
 
 pub use finders::Finders;
 pub use frame::Frame;
-pub use loads::Loads;
+pub use loads::{Loads, Running, Source};
 pub use running::{Section, go_on};
 pub use slots::Slots;
 pub use stack::Stack;

@@ -10,7 +10,7 @@ ghost use Rattle.posting_table.specs.Rows.{row_of};
 ghost use Rattle.query_sections.specs.Reading.{IsOther, loads_of};
 ghost use Rattle.query_sections.specs.Room.{HasRoom};
 
-use crate::loads::Loads;
+use crate::loads::{Loads, Running, Source};
 use crate::stack::Stack;
 use bean_base::Slice;
 use posting_table::HeldRow;
@@ -83,17 +83,37 @@ fn any_text<'r>(posting: &'r HeldRow<'_>, key: &str) -> Value<'r>
     text
 }
 
-impl<'r, 'a> Loads<'r, 'a, '_> {
+impl<'r, 'a, 's> Loads<'r, 'a, 's> {
     /// The posting, which is there.
     #[inline(always)]
     fn posting(&self) -> &'r HeldRow<'a>
         requires { (loads_of self.now).row ≢ None }
         ensures { (loads_of self.now).row ≡ Some (row_of result.now) }
     {
-        let Some(posting) = self.posting else {
-            unreachable!();
-        };
-        posting
+        match self.source {
+            Source::Posting { row, .. } => row,
+            Source::Group { .. } => unreachable!(),
+        }
+    }
+
+    /// The keys of the group; none at a posting.
+    fn keys(&self) -> &'s [Value<'r>]
+        ensures { result.now ≡ (loads_of self.now).keys }
+    {
+        match self.source {
+            Source::Posting { .. } => &[],
+            Source::Group { keys, .. } => keys,
+        }
+    }
+
+    /// The aggregates of the group; none at a posting.
+    fn aggregates(&self) -> &'s [Value<'r>]
+        ensures { result.now ≡ (loads_of self.now).aggregates }
+    {
+        match self.source {
+            Source::Posting { .. } => &[],
+            Source::Group { aggregates, .. } => aggregates,
+        }
     }
 
     /// The column of a number, which is there.
@@ -112,13 +132,17 @@ impl<'r, 'a> Loads<'r, 'a, '_> {
         requires { (loads_of self.now).balance ≢ None }
         ensures { IfOk result (λ x. (loads_of self.now).balance ≡ Some x) }
     {
-        let Some(running) = self.running else {
+        let Source::Posting {
+            running: Some(running),
+            ..
+        } = self.source
+        else {
             unreachable!();
         };
-        if self.compares {
-            return running.clone();
+        match running {
+            Running::Compared(running) => running.clone(),
+            Running::Listed(running) => running.listed(),
         }
-        running.listed()
     }
 
     #[inline(always)]
@@ -256,8 +280,8 @@ fn other_value<'r>(
     ensures { IfOk result (λ x. loaded pool.now (loads_of loads.now) op ≡ Some x) }
 {
     match op {
-        Push::LoadKey(place) => value_at(loads.keys, place),
-        Push::LoadAggregate(place) => value_at(loads.aggregates, place),
+        Push::LoadKey(place) => value_at(loads.keys(), place),
+        Push::LoadAggregate(place) => value_at(loads.aggregates(), place),
         Push::Meta(place) => Ok(posting_text(loads.posting(), key(&pool[place as usize]))),
         Push::EntryMeta(place) => Ok(transaction_text(loads.posting(), key(&pool[place as usize]))),
         Push::AnyMeta(place) => Ok(any_text(loads.posting(), key(&pool[place as usize]))),

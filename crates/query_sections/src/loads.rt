@@ -4,16 +4,33 @@ use limits::Version;
 use posting_table::HeldRow;
 use query_values::Value;
 
-/// A posting, with the running inventory where it may be read; or the keys and the aggregates of a
-/// group. Columns are those of a schema.
+/// What a section reads, with the schema that its columns are of.
 #[derive(Clone, Copy)]
 pub struct Loads<'r, 'a, 's> {
     pub schema: Version,
-    pub posting: Option<&'r HeldRow<'a>>,
-    pub running: Option<&'s Value<'r>>,
-    /// Whether copies of the running inventory are compared with one another, as where rows are told
-    /// once. Else they are only gone through.
-    pub compares: bool,
-    pub keys: &'s [Value<'r>],
-    pub aggregates: &'s [Value<'r>],
+    pub source: Source<'r, 'a, 's>,
+}
+
+/// Where a section reads.
+#[derive(Clone, Copy)]
+pub enum Source<'r, 'a, 's> {
+    /// At a posting, with the running inventory where it may be read.
+    Posting {
+        row: &'r HeldRow<'a>,
+        running: Option<Running<'r, 's>>,
+    },
+    /// At a group.
+    Group {
+        keys: &'s [Value<'r>],
+        aggregates: &'s [Value<'r>],
+    },
+}
+
+/// The running inventory, and what becomes of its copies.
+#[derive(Clone, Copy)]
+pub enum Running<'r, 's> {
+    /// They are compared with one another, as where rows are told once.
+    Compared(&'s Value<'r>),
+    /// They are only gone through.
+    Listed(&'s Value<'r>),
 }

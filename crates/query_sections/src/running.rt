@@ -1,6 +1,5 @@
 //! The instructions of a section, one after the other.
 ghost use Rattle.std.specs.Prelude.{◌≡◌, ◌≢◌, ◌<◌, ◌≤◌, ◌+◌, ◌^◌, Some, None, IfOk, OnOk, length, map, if◌then◌else◌};
-ghost use Rattle.std.specs.Prelude.{slice_index_or, true};
 ghost use Rattle.plain_machine.specs.Loading.{push_of, unary_of};
 ghost use Rattle.plain_machine.specs.Loading.{binary_of};
 ghost use Rattle.plain_machine.specs.Pool.{pattern_in};
@@ -9,7 +8,6 @@ ghost use Rattle.plain_machine.specs.SectionRun.{one_operand, one_step, slot_at,
 ghost use Rattle.plain_machine.specs.SectionRun.{two_operands, with_top};
 ghost use Rattle.query_code.specs.declared.instruction.Unary.TheVariants.{Align, Match};
 ghost use Rattle.query_values.specs.Operand.{is_truth};
-ghost use Rattle.query_sections.specs.Reading as spec;
 ghost use Rattle.query_sections.specs.Reading.{acts_of, loads_of};
 ghost use Rattle.query_sections.specs.Room.{AreInside, GoesSafely, HasRoom, OutcomeHasRoom};
 ghost use Rattle.query_sections.specs.Room.{StateHasRoom};
@@ -279,51 +277,10 @@ fn step<'r>(
     execute(alloc, loads, section.pool, finders, instruction, frame)
 }
 
-/// Whether an instruction is TRUE.
-#[inline(always)]
-fn is_true_load(instruction: Instruction) -> bool
-    ensures { result ≡ spec.is_true_load instruction }
-{
-    matches!(instruction, Instruction::Push(Push::True))
-}
-
-/// Whether a section is TRUE alone, as a filter is that all postings pass.
-#[inline(always)]
-fn is_true_alone(instructions: &[Instruction]) -> bool
-    ensures { result ≡ spec.is_true_alone instructions.now }
-{
-    instructions.len() == 1 && is_true_load(instructions[0])
-}
-
-/// The next instruction, which is TRUE.
-#[inline(always)]
-fn step_true<'r>(
-    alloc: Global,
-    loads: &Loads<'r, '_, '_>,
-    section: &Section<'r, '_>,
-    finders: &mut Finders<'r>,
-    frame: &mut Frame<'r>,
-) -> Result<(), AllocError>
-    requires built { finders.old ≡ map pattern_in section.now.pool.now }
-    requires inside { frame.old.place < length section.now.instructions.now }
-    requires room { OutcomeHasRoom frame.old.stack.room (one_step section.now.instructions.now
-        (acts_of section.now.pool.now loads.now) (standing frame.old)) }
-    requires is { slice_index_or section.now.instructions.now frame.old.place spec.true_load
-        ≡ spec.true_load }
-    ensures stands { OnOk result (standing frame.new ≡ one_step section.now.instructions.now
-        (acts_of section.now.pool.now loads.now) (standing frame.old)) }
-    ensures next { OnOk result (frame.new.place ≡ frame.old.place + 1) }
-    ensures room { frame.new.stack.room ≡ frame.old.stack.room }
-    ensures same { finders.new ≡ finders.old }
-{
-    let instruction = Instruction::Push(Push::True);
-    execute(alloc, loads, section.pool, finders, instruction, frame)
-}
-
 /// Goes on by so many instructions, at most to the end of the section, and tells how many they
-/// were, one after the other.
+/// were. Where memory lacks, the section can't go on.
 #[inline(never)]
-fn go_through<'r>(
+pub fn go_on<'r>(
     alloc: Global,
     loads: &Loads<'r, '_, '_>,
     section: &Section<'r, '_>,
@@ -352,47 +309,4 @@ fn go_through<'r>(
         made += 1;
     }
     Ok(made)
-}
-
-/// Goes on by so many instructions, at most to the end of the section, and tells how many they
-/// were. Where memory lacks, the section can't go on.
-#[inline(always)]
-pub fn go_on<'r>(
-    alloc: Global,
-    loads: &Loads<'r, '_, '_>,
-    section: &Section<'r, '_>,
-    finders: &mut Finders<'r>,
-    frame: &mut Frame<'r>,
-    most: u64,
-) -> Result<u64, AllocError>
-    requires built { finders.old ≡ map pattern_in section.now.pool.now }
-    requires within { frame.old.place ≤ length section.now.instructions.now }
-    requires safe { GoesSafely frame.old.stack.room section.now.instructions.now
-        (acts_of section.now.pool.now loads.now) (standing frame.old) }
-    ensures few { IfOk result (λ made. made ≤ most) }
-    ensures stands { IfOk result (λ made. standing frame.new
-        ≡ after_steps section.now.instructions.now (acts_of section.now.pool.now loads.now) made
-        (standing frame.old)) }
-    ensures inside { IfOk result (λ made. AreInside section.now.instructions.now
-        (acts_of section.now.pool.now loads.now) made (standing frame.old)) }
-    ensures ends { IfOk result (λ made. made < most
-        → frame.new.place ≡ length section.now.instructions.now) }
-    ensures room { frame.new.stack.room ≡ frame.old.stack.room }
-    ensures same { finders.new ≡ finders.old }
-{
-    // What most queries ask of a posting before all else needs no look at what it is.
-    if is_true_alone(section.instructions) && frame.place == 0 && most > 0 {
-        step_true(alloc, loads, section, finders, frame)?;
-        return Ok(1);
-    }
-    // The loop reads this in memory. It is written here, so that TRUE alone needs none of it.
-    let loads = Loads {
-        schema: loads.schema,
-        posting: loads.posting,
-        running: loads.running,
-        compares: loads.compares,
-        keys: loads.keys,
-        aggregates: loads.aggregates,
-    };
-    go_through(alloc, &loads, section, finders, frame, most)
 }

@@ -3,7 +3,7 @@ use Rattle.plain_machine.specs.SectionRun.{after_steps}
 use Rattle.query_sections.specs.Reading.{acts_of}
 use Rattle.query_sections.specs.Room.{AreInside}
 use Rattle.query_sections.specs.Standing.{standing}
-use Rattle.query_sections.proofs.running.go_through.Given as goal
+use Rattle.query_sections.proofs.running.go_on.Given as goal
 
 abbrev pub invariant-loop-made : goal.invariant-loop-made
 invariant-loop-made l = record {
