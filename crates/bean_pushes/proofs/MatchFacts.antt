@@ -2,7 +2,7 @@
 -- from the first to the last.
 use Rattle.std.proofs.Common.{◌≡◌, ℕ, zero, suc, ◌-◌, ◌+◌, ◌<◌, ◌≤◌, ◌^◌, Bool, true, false, cond}
 use Rattle.std.proofs.Common.{List, [], ◌∷◌, ◌++◌, length, get_or, take, drop, Option, Some, None}
-use Rattle.std.proofs.Common.{refl, sym, ◌∙◌, ap, subst, arith, ◌&&◌, is_some, nat_lt}
+use Rattle.std.proofs.Common.{refl, sym, ◌∙◌, ap, arith, ◌&&◌, is_some, nat_lt}
 use Rattle.std.proofs.lemmas.Bool.Decides.{nat_tests}
 use Rattle.std.proofs.lemmas.Slice.Eq.{bytes_eq-Decides}
 use Rattle.std.proofs.lemmas.List.{append_assoc, take_more}
@@ -15,12 +15,11 @@ use Rattle.bean_directives.specs.declared.undated.Bound.TheVariants.{Push, Pop}
 use Rattle.bean_directives.specs.declared.undated.Pushed.{Pushed}
 use Rattle.bean_directives.specs.declared.undated.PushName.{PushName}
 use Rattle.bean_directives.specs.declared.undated.PushName.TheVariants as names
-use Rattle.bean_pushes.specs.Matches.{ahead_in, ahead_of, are_same, looked_up, reaches_of}
+use Rattle.bean_pushes.specs.Matches.{ahead_of, are_same, looked_up, reaches_of}
 use Rattle.bean_pushes.specs.Scope.{name_in, name_of, same_name, open_behind, open_pushes}
 use Rattle.bean_pushes.specs.Scope.{pops_before, pops_left, next_of, reach_of, fault_unless}
 use Rattle.bean_pushes.specs.Scope.{given_up_to, is_matched, unmatched}
 use Rattle.bean_pushes.specs.declared.matches.Ahead.{Ahead}
-use Rattle.bean_pushes.specs.declared.matches.Aheads.{Aheads}
 use Rattle.bean_pushes.specs.declared.matches.Name.{Name}
 use Rattle.bean_pushes.specs.declared.scope.PlacedBound.{PlacedBound}
 

@@ -1,5 +1,5 @@
 -- What is kept of bounds, by name: what stands behind some, and the pushes that are open.
-use Rattle.std.specs.Prelude.{◌≡◌, List, [], ◌∷◌, Option, Some, None, Bool, true, false, ◌&&◌}
+use Rattle.std.specs.Prelude.{List, [], ◌∷◌, Option, Some, None, Bool, true, false, ◌&&◌}
 use Rattle.std.specs.Bool.{beq}
 use Rattle.std.specs.Prelude.{unwrap_or, ℕ}
 use Rattle.std.specs.Str.{bytes_eq}

@@ -11,8 +11,7 @@ use Rattle.bql_meaning.proofs.KeyFacts.{of_the_group}
 use Rattle.bql_meaning.proofs.PlannedFacts.{rank_as_asked}
 use Rattle.bql_meaning.proofs.TypedFacts.{keys_are_typed}
 use Rattle.bql_meaning.specs.Answer as meaning
-use Rattle.bql_meaning.specs.Answer.{alone, grouped, groups, holds, keys_at, passes, passing, rows_of}
-use Rattle.bql_meaning.specs.Answer.{unbalanced}
+use Rattle.bql_meaning.specs.Answer.{alone, grouped, groups, keys_at, passes, passing, rows_of}
 use Rattle.bql_meaning.specs.Keys.{HasNoAggregate, IsTypedKey}
 use Rattle.bql_meaning.specs.Meaning.{value_of}
 use Rattle.bql_meaning.specs.Reading.{Reading}

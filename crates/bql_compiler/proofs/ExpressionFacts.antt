@@ -42,7 +42,6 @@ use Rattle.query_rows.specs.ColumnShape.{AreBounds, column_shape}
 use Rattle.query_terms.specs.declared.column.Column.{Column}
 use Rattle.query_terms.specs.declared.column.Column.TheVariants.{Accounts}
 use Rattle.query_rows.specs.Rules as machine
-use Rattle.query_rows.specs.Rules.{Ruled}
 use Rattle.query_rows.specs.Shape.{fitting, is_held}
 use Rattle.query_rows.specs.declared.shape.Misfit.TheVariants.{Kind, TooWide}
 use Rattle.query_rows.specs.declared.shape.Shape.{Shape}

@@ -24,7 +24,7 @@ use Rattle.bql_types.proofs.OneShapeFacts.{same_have_one_shape}
 use Rattle.bql_types.specs.Gathered.{aggregate_in, of_call}
 use Rattle.bql_types.specs.Same.{same}
 use Rattle.bql_types.specs.Shaped as shaped
-use Rattle.bql_types.specs.Shaped.{beside, operand, rule, ruled, shape_of, shapes_of}
+use Rattle.bql_types.specs.Shaped.{beside, operand, ruled, shape_of, shapes_of}
 use Rattle.bql_types.specs.Sought.{is_aggregate, is_aggregate_function, is_key}
 use Rattle.bql_types.specs.Typing.{Grouping}
 use Rattle.bql_compiler.specs.CoreShape.{HasShape, HaveShapes}

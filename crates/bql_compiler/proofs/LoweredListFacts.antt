@@ -27,7 +27,7 @@ use Rattle.bql_types.specs.Shaped.{beside, operand, shape_of, shapes_of}
 use Rattle.bql_compiler.specs.CoreShape.{HasShape}
 use Rattle.query_code.specs.declared.program.Constant.{Constant}
 use Rattle.query_rows.specs.Rules as machine
-use Rattle.query_rows.specs.Rules.{Ruled, is_like, is_ranked}
+use Rattle.query_rows.specs.Rules.{Ruled, is_ranked}
 use Rattle.query_rows.specs.Shape.{fitting}
 use Rattle.query_rows.specs.declared.shape.Misfit.TheVariants.{Kind, TooWide}
 use Rattle.query_rows.specs.declared.shape.Shape.{Shape}

@@ -12,7 +12,7 @@ use Rattle.bql_lexer.specs.declared.kind.Kind.TheVariants as kind
 use Rattle.bql_lexer.specs.declared.token.Token.{Token}
 use Rattle.bql_grammar.specs.Expression.{told, then, choice, chained, behind_comma, list_of}
 use Rattle.bql_grammar.specs.Front as fronts
-use Rattle.bql_grammar.specs.Front.{front, before, begins, of_kind}
+use Rattle.bql_grammar.specs.Front.{before, begins, of_kind}
 use Rattle.bql_tree.specs.Level as level_rules
 use Rattle.bql_tree.specs.Part.{Part}
 use Rattle.bql_tree.specs.declared.level.Level.{Level}

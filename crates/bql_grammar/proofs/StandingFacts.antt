@@ -12,7 +12,7 @@ use Rattle.bql_lexer.specs.declared.kind.Kind.{Kind}
 use Rattle.bql_lexer.specs.declared.kind.Kind.TheVariants as kind
 use Rattle.bql_lexer.specs.declared.token.Token.{Token}
 use Rattle.bql_grammar.specs.Front as fronts
-use Rattle.bql_grammar.specs.Front.{front, before, begins, of_kind, with_token, leaf_by}
+use Rattle.bql_grammar.specs.Front.{front, before, of_kind, with_token, leaf_by}
 use Rattle.bql_grammar.specs.Nesting.{Open, Parenthesis, Sign, Denial, Last, Wants, Names, Ends}
 use Rattle.bql_grammar.specs.Nesting.{Standing, behind, wanting, unsigned, enclosing, outside}
 use Rattle.bql_grammar.specs.Nesting.{role, Joins, IsLiteral, after, step, through, others}

@@ -1,11 +1,10 @@
 -- Where tokens end, a character ends, and none is empty.
 use Rattle.std.specs.Prelude.{slice_range}
-use Rattle.std.proofs.Common.{◌≡◌, ℕ, zero, suc, ◌+◌, ◌-◌, ◌<◌, ◌≤◌, ◌&&◌, Bool, true, false, cond}
+use Rattle.std.proofs.Common.{◌≡◌, ℕ, ◌+◌, ◌-◌, ◌<◌, ◌≤◌, Bool, true, false, cond}
 use Rattle.std.proofs.Common.{List, [], ◌∷◌, length, get_or, take, drop, nat_lt, nat_eq}
-use Rattle.std.proofs.Common.{if◌then◌else◌, IsTrue, IsUtf8, Option, Some, None, arith, ap, sym}
-use Rattle.std.proofs.Common.{refl, ◌∙◌, subst, length-drop, length-take-le, not}
+use Rattle.std.proofs.Common.{if◌then◌else◌, IsUtf8, Option, Some, None, arith, ap}
+use Rattle.std.proofs.Common.{refl, ◌∙◌, length-drop, length-take-le, not}
 use Rattle.std.proofs.lemmas.Bool.Decides.{nat_tests}
-use Rattle.std.proofs.lemmas.List.Sums.{prefix_len-le-length}
 use Rattle.std.proofs.lemmas.List.{get_or-take, get_or-drop}
 use Rattle.std.proofs.lemmas.List.Folds.{list_all_at}
 use Rattle.std.proofs.lemmas.Str.{IsCharBoundary-after_ascii}
@@ -18,11 +17,11 @@ use Rattle.bql_lexer.specs.declared.found.Found.{Found}
 use Rattle.bql_lexer.specs.declared.kind.Kind.{Kind}
 use Rattle.bql_lexer.specs.declared.kind.Kind.TheVariants as kinds
 use Rattle.bql_lexer.specs.Kind.{word_kind}
-use Rattle.bql_lexer.specs.Token.{is_white, behind_white, is_in_word, begins_word, word_of, word}
+use Rattle.bql_lexer.specs.Token.{is_white, behind_white, is_in_word, begins_word, word_of}
 use Rattle.bql_lexer.specs.Token.{has_decimals, whole_len, number_len, begins_with_day}
-use Rattle.bql_lexer.specs.Token.{day_or_number, fault, is_closed, quoted, text_or_fault, sign_of}
+use Rattle.bql_lexer.specs.Token.{day_or_number, fault, is_closed, text_or_fault, sign_of}
 use Rattle.bql_lexer.specs.Token.{sign_of_two, sign_of_front, cut, cut_or_fault, sign_by}
-use Rattle.bql_lexer.specs.Token.{sign_or_fault, token_by, token_at}
+use Rattle.bql_lexer.specs.Token.{token_at}
 use Rattle.byte_runs.proofs.RunFacts.{run_boundary, front_boundary}
 
 pub white_is_ascii : (b : ℕ) → is_white b ≡ true → b < 128

@@ -7,8 +7,8 @@ use Rattle.std.specs.Result.{is_ok}
 use Rattle.limits.specs.declared.bounds.Bounds.{Bounds}
 use Rattle.limits.specs.declared.bounds.Version.TheVariants.{Second}
 use Rattle.bql_rules.specs.Rules as rule
-use Rattle.bql_rules.specs.Rules.{by_machine, of_both, of_truths, listed, one_of, greatest_places}
-use Rattle.bql_rules.specs.Rules.{is_held_with, are_alike, call_shape, single, sum_over, gathered}
+use Rattle.bql_rules.specs.Rules.{by_machine, of_both, of_truths, one_of, greatest_places}
+use Rattle.bql_rules.specs.Rules.{is_held_with, are_alike, call_shape, single, sum_over}
 use Rattle.bql_rules.specs.Rules.{leaf_shape, places_of}
 use Rattle.bql_tree.specs.declared.function.Function.{Function}
 use Rattle.bql_tree.specs.declared.function.Function.TheVariants as function

@@ -1,8 +1,7 @@
 -- What a plan shows, and what it orders by, are the targets and the items of its query.
 use Rattle.std.proofs.Common.{◌≡◌, ℕ, zero, suc, ◌<◌, ◌||◌, Bool, true, false, cond, List, [], ◌∷◌}
-use Rattle.std.proofs.Common.{◌++◌, length, map, take, refl, sym, ap, subst, ◌∙◌, arith, true≢false}
-use Rattle.std.specs.Bool.{Decides}
-use Rattle.std.specs.List.{AllByRecursion, list_any, slice_get}
+use Rattle.std.proofs.Common.{◌++◌, length, map, take, refl, sym, ap, ◌∙◌, arith, true≢false}
+use Rattle.std.specs.List.{AllByRecursion, slice_get}
 use Rattle.std.specs.Prelude.{slice_index_or}
 use Rattle.theory.specs.Form.{steps}
 use Rattle.limits.specs.declared.bounds.Bounds.{Bounds}

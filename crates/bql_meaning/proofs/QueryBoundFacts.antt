@@ -1,5 +1,5 @@
 -- By whichever bounds a query has a type, its rows are the same.
-use Rattle.std.proofs.Common.{◌≡◌, ℕ, zero, suc, Bool, true, false, ◌&&◌, List, [], ◌∷◌}
+use Rattle.std.proofs.Common.{◌≡◌, ℕ, zero, suc, ◌&&◌, List, [], ◌∷◌}
 use Rattle.std.proofs.Common.{map, filter, Option, Some, None, refl, ap, ◌∙◌, cond}
 use Rattle.std.proofs.Common.{arith}
 use Rattle.std.specs.List.{AllByRecursion, IsAmong, slice_get}
@@ -13,7 +13,6 @@ use Rattle.bql_types.proofs.TypedFacts.{typed_have_shapes}
 use Rattle.bql_types.specs.Laws.{HasShapes, IsShaped, IsFilter, IsOrder}
 use Rattle.bql_types.specs.Typing.{IsTyped, Grouping, grouping_of}
 use Rattle.query_rows.specs.Same.{same_values, each_once}
-use Rattle.query_values.specs.declared.value.Value.{Value}
 use Rattle.query_rows.specs.Row.{Row}
 use Rattle.query_values.specs.Operation.{is_true}
 use Rattle.bql_meaning.specs.Answer.{holds, passing, balanced, unbalanced, groups, grouped, alone}

@@ -19,7 +19,7 @@ use Rattle.bql_grammar.specs.declared.stuck.Stuck.{Stuck}
 use Rattle.bql_grammar.specs.declared.stuck.Stuck.TheVariants.{OutOfMemory, At}
 use Rattle.bql_parser.specs.Asked.{Asked}
 use Rattle.bql_grammar.specs.Grammar.{query}
-use Rattle.bql_parser.specs.Parse.{Parses, IsQuery, HasCause, Stops, IsAnswered, Meets}
+use Rattle.bql_parser.specs.Parse.{Parses, IsQuery, Stops, IsAnswered, Meets}
 use Rattle.bql_parser.specs.Parse.{is_deep, is_left, IsRefusalBy, BeginsAQuery}
 use Rattle.bql_grammar.specs.Read.{Read}
 use Rattle.bql_parser.specs.Settled.{mapped, refused_at, byte_beyond, settled, answer}

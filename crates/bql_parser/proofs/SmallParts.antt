@@ -15,7 +15,7 @@ use Rattle.bql_tree.specs.Function.{name, named, known, if_known, is_known_in}
 use Rattle.bql_tree.specs.Part as parts
 use Rattle.bql_tree.specs.Part.{Part}
 use Rattle.bql_tree.specs.Tree.{leaf_of, call_of, Tree, node}
-use Rattle.bql_tree.specs.Tree.{Trees, trees, all_trees}
+use Rattle.bql_tree.specs.Tree.{Trees, all_trees}
 use Rattle.bql_tree.specs.declared.cause.PartCause.{PartCause}
 use Rattle.bql_tree.specs.declared.function.Function.{Function}
 use Rattle.bql_tree.specs.declared.function.Function.TheVariants as function

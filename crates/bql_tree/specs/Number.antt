@@ -1,5 +1,5 @@
 -- Numbers of a query: digits, and a point with digits behind it.
-use Rattle.std.specs.Prelude.{ℕ, ◌^◌, ◌==◌, min, Bool, List, drop, length, pos, Option, Some, None}
+use Rattle.std.specs.Prelude.{ℕ, ◌==◌, min, Bool, List, drop, length, pos, Option, Some, None}
 use Rattle.std.specs.List.{prefix_len, after_first}
 use Rattle.limits.specs.declared.counts.TheConstants.{COUNT_BOUND}
 use Rattle.bean_base.specs.Numeral.{count_of, is_point}

@@ -1,5 +1,5 @@
 -- That one thing is told of the text of a query, by the bounds: its query, or why it has no file.
-use Rattle.std.proofs.Common.{◌≡◌, inl, inr, ℕ, List, true, Option, Some, None, Result, Ok, Err, refl}
+use Rattle.std.proofs.Common.{◌≡◌, inl, inr, ℕ, List, true, Some, Ok, Err, refl}
 use Rattle.std.proofs.Common.{sym, ap, ◌∙◌, subst}
 use Rattle.bql_compiler.specs.Limits.{IsCause, IsCompiled, IsRefusal, IsWithin}
 use Rattle.bql_compiler.specs.declared.cause.CompileCause.{CompileCause}

@@ -19,7 +19,7 @@ use Rattle.bean_lots.specs.declared.lot.Position.{Position}
 use Rattle.bean_lots.proofs.LotFacts.{same_key_equiv}
 use Rattle.bean_lots.proofs.SlotFacts.{same_some}
 use Rattle.query_holdings.specs.Entries.{comes_before, in_order}
-use Rattle.query_holdings.specs.Kept.{AreKeys, IsKept, MayTurn, held_in}
+use Rattle.query_holdings.specs.Kept.{AreKeys, held_in}
 use Rattle.query_holdings.specs.Placed.{entry_in, in_key_order, is_before, placed_from}
 
 abbrev pub IsFull : ℤ → Type 0

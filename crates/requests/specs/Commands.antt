@@ -1,5 +1,5 @@
 -- The commands of the program, and what the words ask for: one of them, with its words.
-use Rattle.std.specs.Prelude.{List, [], ◌∷◌, Option, Some, None, codes, true, find}
+use Rattle.std.specs.Prelude.{List, [], ◌∷◌, Option, None, codes, true, find}
 use Rattle.std.specs.Option.{option_and_then, option_map}
 use Rattle.std.specs.Str.{bytes_eq}
 use Rattle.clap.specs.Faults.{fault_of}

@@ -13,7 +13,6 @@ use Rattle.query_rows.specs.Shape.{IsBelow, fitting}
 use Rattle.query_rows.specs.declared.shape.Shape.{Shape}
 use Rattle.query_rows.specs.declared.shape.Shape.TheVariants.{Text, Truth}
 use Rattle.query_terms.specs.Column.{numbered}
-use Rattle.query_rows.specs.ColumnShape.{column_shape}
 use Rattle.query_terms.specs.declared.column.Column.{Column}
 use Rattle.query_terms.specs.declared.column.Column.TheVariants.{Balance}
 use Rattle.query_code.specs.declared.instruction.Push.{Push}

@@ -22,7 +22,7 @@ use Rattle.query_code.specs.declared.program.Constant.{Constant}
 use Rattle.query_terms.specs.Column.{numbered}
 use Rattle.query_terms.specs.declared.column.TheConstants.{COLUMNS}
 use Rattle.query_rows.specs.Rules as machine
-use Rattle.query_rows.specs.Rules.{Ruled, unary_shape}
+use Rattle.query_rows.specs.Rules.{Ruled}
 use Rattle.query_rows.specs.Shape.{fitting, is_held, is_most}
 use Rattle.query_rows.specs.declared.shape.Misfit.TheVariants.{Kind, TooWide}
 use Rattle.query_rows.specs.declared.shape.Shape.{Shape}

@@ -1,7 +1,7 @@
 -- What a well shaped program loads are columns of its schema.
-use Rattle.std.proofs.Common.{◌≡◌, ℕ, zero, suc, Bool, true, false, cond, List, [], ◌∷◌, Option, Some}
-use Rattle.std.proofs.Common.{None, length, refl, sym, ap, ◌∙◌, subst, arith}
-use Rattle.std.specs.Prelude.{option_map, option_and_then, slice_get, ◌==◌}
+use Rattle.std.proofs.Common.{◌≡◌, ℕ, suc, Bool, true, false, cond, List, [], ◌∷◌, Option, Some}
+use Rattle.std.proofs.Common.{None, length, refl, sym, ap, subst, arith}
+use Rattle.std.specs.Prelude.{option_and_then, slice_get, ◌==◌}
 use Rattle.std.specs.List.{AllByRecursion}
 use Rattle.std.proofs.lemmas.Bool.{eqb-true}
 use Rattle.limits.specs.declared.bounds.Bounds.{Bounds}
@@ -23,9 +23,9 @@ use Rattle.query_rows.specs.Shape.{fitting}
 use Rattle.query_rows.specs.declared.shape.Shape.{Shape}
 use Rattle.plain_machine.specs.SectionRun.{State, effect, with_slots, with_top}
 use Rattle.plain_machine.specs.Upgrade.{KnowsColumn, NamesItsColumns}
-use Rattle.well_shaped.specs.Places.{AreGiven, Leaves}
-use Rattle.well_shaped.specs.Program.{AreGrouped, EndsWell, IsWellShaped}
-use Rattle.well_shaped.specs.Sections.{Loads, column_at, filter_loads, given, last_loads, push_of}
+use Rattle.well_shaped.specs.Places.{Leaves}
+use Rattle.well_shaped.specs.Program.{EndsWell, IsWellShaped}
+use Rattle.well_shaped.specs.Sections.{Loads, column_at, filter_loads, given, last_loads}
 use Rattle.well_shaped.specs.Sections.{row_loads, shape_acts, shape_by, shape_of}
 
 -- whatever is loaded of postings is told by bounds of this schema

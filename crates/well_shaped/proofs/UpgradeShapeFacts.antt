@@ -1,5 +1,5 @@
 -- The shapes of a program are shapes of its upgrade.
-use Rattle.std.proofs.Common.{◌≡◌, ◌⊎◌, ℕ, ◌≤◌, Bool, true, false, cond, List, [], Option, Some, None}
+use Rattle.std.proofs.Common.{◌≡◌, ℕ, ◌≤◌, Bool, true, false, cond, List, [], Option, Some, None}
 use Rattle.std.proofs.Common.{refl, sym, ap, ◌∙◌, inl, inr, arith}
 use Rattle.std.specs.Prelude.{option_map, option_and_then}
 use Rattle.limits.specs.Version.{most_postings}
@@ -25,9 +25,8 @@ use Rattle.query_rows.specs.declared.shape.Shape.{Shape}
 use Rattle.query_rows.specs.declared.shape.Shape.TheVariants as shape
 use Rattle.plain_machine.specs.Pool.{key_at}
 use Rattle.plain_machine.specs.SectionRun.{State, effect, with_slots, with_top}
-use Rattle.well_shaped.specs.Ends.{AreRow, HandsOver}
-use Rattle.well_shaped.specs.Places.{AreGiven, HasDepth, Leaves, Works}
-use Rattle.well_shaped.specs.Program.{AreGrouped, EndsWell, HasDepthInLast, HasDepthSomewhere}
+use Rattle.well_shaped.specs.Places.{AreGiven, HasDepth, Leaves}
+use Rattle.well_shaped.specs.Program.{EndsWell, HasDepthInLast, HasDepthSomewhere}
 use Rattle.well_shaped.specs.Program.{IsDepth, IsWellShaped}
 use Rattle.well_shaped.specs.Sections.{Loads, balance_in, filter_loads, given, loaded, push_of}
 use Rattle.well_shaped.specs.Sections.{row_loads, shape_acts, shape_by, shape_of}

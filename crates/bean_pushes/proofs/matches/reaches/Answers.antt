@@ -1,4 +1,4 @@
-use Rattle.std.proofs.Common.{◌<◌, ◌-◌, ◌∙◌, sym, ap, subst, reverse, length, drop, arith}
+use Rattle.std.proofs.Common.{◌<◌, ◌-◌, ◌∙◌, sym, ap, reverse, length, drop, arith}
 use Rattle.std.proofs.Common.{◌≡◌, ◌∷◌}
 use Rattle.std.proofs.lemmas.List.{length-drop, reverse-append}
 use Rattle.bean_pushes.specs.Matches.{ahead_of, reaches_of}

@@ -11,7 +11,7 @@ use Rattle.bql_grammar.specs.Beginning.{IsBegun}
 use Rattle.bql_grammar.specs.Expression.{grouped, call, arguments, behind_comma, literal, counted}
 use Rattle.bql_grammar.specs.Expression.{compared_if_due}
 use Rattle.bql_grammar.specs.Front as fronts
-use Rattle.bql_grammar.specs.Front.{begins, of_kind}
+use Rattle.bql_grammar.specs.Front.{of_kind}
 use Rattle.bql_grammar.specs.Gives.{Gives}
 use Rattle.bql_grammar.specs.Nesting as nesting
 use Rattle.bql_grammar.specs.Nesting.{IsInside, IsInsideList, bound, all, enclosing}

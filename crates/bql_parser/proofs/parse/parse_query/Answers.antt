@@ -1,6 +1,6 @@
 use Rattle.std.proofs.Common.{sym, subst, ◌∙◌}
 use Rattle.bql_lexer.specs.Tokens.{AreTokens}
-use Rattle.bql_parser.specs.Parse.{Parses, IsRefusalBy}
+use Rattle.bql_parser.specs.Parse.{IsRefusalBy}
 use Rattle.bql_grammar.specs.Read.{read_of}
 use Rattle.bql_parser.specs.Settled.{mapped}
 use Rattle.bql_parser.specs.View.{draft_of}

@@ -1,4 +1,4 @@
-use Rattle.std.proofs.Common.{Err, sym, ap, subst}
+use Rattle.std.proofs.Common.{Err, sym, subst}
 use Rattle.query_files.specs.Texts.{HasProgram}
 use Rattle.query_files.proofs.TextFacts.{programmed, uncompilable, untypable}
 use Rattle.query_files.proofs.compiling.program_of.Goals as goal

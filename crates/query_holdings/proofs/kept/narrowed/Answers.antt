@@ -1,11 +1,11 @@
-use Rattle.std.proofs.Common.{◌≡◌, ◌<◌, ℤ, length, take, arith, sym, ap, subst, ◌∙◌, to_z, of_z, rules}
+use Rattle.std.proofs.Common.{◌≡◌, ◌<◌, length, take, arith, sym, ap, subst, ◌∙◌, to_z, of_z, rules}
 use Rattle.std.specs.Int.{w64, w128}
 use Rattle.std.specs.Int.RustNames.{FitsSigned}
 use Rattle.std.proofs.lemmas.Int.{to_z-of_z}
 use Rattle.std.proofs.lemmas.List.{length-set, take_all}
 use Rattle.std.proofs.lemmas.List.Elements.{All-set}
 use Rattle.std.specs.List.{AllByRecursion}
-use Rattle.std.specs.Map.{keys_of, values_of}
+use Rattle.std.specs.Map.{values_of}
 use Rattle.query_holdings.specs.Kept.{MayTurn}
 use Rattle.query_holdings.proofs.KeptFacts.{IsFull, all_full, full_more, written_more}
 use Rattle.query_holdings.proofs.kept.narrowed.Goals as goal

@@ -1,4 +1,4 @@
-use Rattle.std.proofs.Common.{◌≡◌, ◌++◌, [], ◌∷◌, to_z, of_z, sym, ap, ap₂, ◌∙◌}
+use Rattle.std.proofs.Common.{◌++◌, [], ◌∷◌, sym, ap₂, ◌∙◌}
 use Rattle.query_holdings.proofs.KeptFacts.{placed_more}
 use Rattle.query_holdings.proofs.keys.placed_in.Goals as goal
 

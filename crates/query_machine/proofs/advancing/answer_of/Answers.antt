@@ -1,4 +1,4 @@
-use Rattle.std.proofs.Common.{◌+◌, ◌∙◌, ap, arith, length, refl, subst, sym}
+use Rattle.std.proofs.Common.{◌+◌, ◌∙◌, ap, arith, length, refl, subst}
 use Rattle.plain_machine.specs.Finishing.{ComesOut}
 use Rattle.query_runs.specs.Stands.{rows_in}
 use Rattle.query_machine.proofs.Ends.{rows_counted, run_of}

@@ -1,4 +1,4 @@
-use Rattle.std.proofs.Common.{ap, subst, sym, ◌∙◌}
+use Rattle.std.proofs.Common.{subst, sym}
 use Rattle.bean_lots.specs.Inventory.{IsInventory}
 use Rattle.bean_lots.specs.Slots.{positions}
 use Rattle.bean_lots.proofs.SlotFacts.{inventory}

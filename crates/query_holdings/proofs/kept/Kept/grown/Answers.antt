@@ -1,4 +1,4 @@
-use Rattle.std.proofs.Common.{◌≡◌, ◌+ℤ◌, ◌++◌, [], ◌∷◌, to_z, of_z, pos, sym, ap, ap₂, subst, ◌∙◌, arith, rules}
+use Rattle.std.proofs.Common.{◌≡◌, ◌+ℤ◌, ◌++◌, [], ◌∷◌, to_z, of_z, sym, ap, ap₂, subst, ◌∙◌, arith, rules}
 use Rattle.std.proofs.Common.{append_assoc}
 use Rattle.std.specs.Int.{w128}
 use Rattle.std.specs.Int.RustNames.{FitsSigned}

@@ -1,6 +1,6 @@
-use Rattle.std.proofs.Common.{◌≡◌, ◌≤◌, All, List, ℤ, length, map, neg_ℤ, arith, subst, sym, ap, ◌∙◌}
+use Rattle.std.proofs.Common.{◌≡◌, length, map, neg_ℤ, arith, subst, sym, ap, ◌∙◌}
 use Rattle.bean_lots.specs.Inventory.{IsInventory, negative_entry}
-use Rattle.query_holdings.specs.Kept.{IsKept, MayTurn, held_in}
+use Rattle.query_holdings.specs.Kept.{IsKept, held_in}
 use Rattle.query_holdings.proofs.KeptFacts.{turned_held, turned_inventory}
 use Rattle.query_holdings.proofs.kept.Kept.negate.Goals as goal
 

@@ -1,4 +1,4 @@
-use Rattle.std.proofs.Common.{ℤ, List, map, ap, ap₂, sym, ◌∙◌}
+use Rattle.std.proofs.Common.{map, sym, ◌∙◌}
 use Rattle.query_holdings.specs.Entries.{in_order}
 use Rattle.query_holdings.specs.Kept.{held_in}
 use Rattle.query_holdings.specs.Placed.{entry_in}
