@@ -1,6 +1,8 @@
 //! How much of transactions and postings is told.
 ghost use Rattle.std.specs.Prelude.{◌≡◌};
 
+use given_items::Items;
+
 /// How much is told of what few transactions and postings have, or few ask for: the sets of accounts,
 /// tags, links and metadata. What isn't told is empty, and costs nothing. Nothing else of a ledger
 /// hangs on it.
@@ -20,7 +22,7 @@ pub enum Details {
 impl Details {
     ghost use Rattle.bean_book.specs.Details as spec;
 
-    /// Marks, or entries of metadata, as far as they are told.
+    /// The metadata of a posting, as far as it is told.
     pub(crate) fn told<'r, T>(self, items: &'r [T]) -> &'r [T]
         ensures { result.now ≡ spec.told self items.now }
     {
@@ -28,5 +30,15 @@ impl Details {
             Details::All | Details::ButAccounts => items,
             Details::Few => &[],
         }
+    }
+
+    /// The marks of a transaction, or its metadata, as far as they are told.
+    pub(crate) fn items<'m, T: Drop>(self, all: Items<'m, T>) -> Items<'m, T>
+        ensures { result ≡ spec.told self all.entry }
+    {
+        if matches!(self, Details::Few) {
+            return Items::none();
+        }
+        all
     }
 }

@@ -14,6 +14,7 @@ use bean_grammar::Mark;
 use bean_holdings::Posted;
 use bean_pad::NotedPad;
 use bean_replay::{Kept, Written};
+use given_items::Items;
 use posting_entries::{
     Entry, EntryFlag, EntryParts, Metadata, NoExtras, PlainParts, PlainText, Shared,
 };
@@ -38,12 +39,13 @@ fn shared_set<'a>(
 fn tags_of<'a>(
     alloc: Global,
     none: &NoExtras<'a>,
-    marks: &[Mark<'a>],
+    marks: Items<'_, Mark<'a>>,
 ) -> Result<Shared<TextSet<'a>>, AllocError>
-    ensures { IfOk result (λ set. set ≡ set_of (flat_map spec.tag_in marks.now)) }
+    ensures { IfOk result (λ set. set ≡ set_of (flat_map spec.tag_in marks.entry)) }
 {
     let mut names = Vec::new(alloc);
-    for mark in marks {
+    let mut rest = marks;
+    while let Some(mark) = rest.next_item() {
         if let Mark::Tag(tag) = mark {
             names.push(Slice::new(tag.text()))?;
         }
@@ -55,12 +57,13 @@ fn tags_of<'a>(
 fn links_of<'a>(
     alloc: Global,
     none: &NoExtras<'a>,
-    marks: &[Mark<'a>],
+    marks: Items<'_, Mark<'a>>,
 ) -> Result<Shared<TextSet<'a>>, AllocError>
-    ensures { IfOk result (λ set. set ≡ set_of (flat_map spec.link_in marks.now)) }
+    ensures { IfOk result (λ set. set ≡ set_of (flat_map spec.link_in marks.entry)) }
 {
     let mut names = Vec::new(alloc);
-    for mark in marks {
+    let mut rest = marks;
+    while let Some(mark) = rest.next_item() {
         if let Mark::Link(link) = mark {
             names.push(Slice::new(link.text()))?;
         }
@@ -138,8 +141,8 @@ fn plain_texts<'a>(details: Details, written: &Written<'a>) -> Option<Texts<'a>>
         IsPlainEntry details written.now texts.payee texts.narration) }
 {
     let transaction = written.transaction();
-    let marks = details.told(transaction.marks.as_slice());
-    if !marks.is_empty() || !details.told(written.metadata()).is_empty() {
+    let marks = details.items(transaction.marks.items());
+    if !marks.is_empty() || !details.items(written.metadata()).is_empty() {
         return None;
     }
     let payee = match transaction.payee.text() {
@@ -188,14 +191,13 @@ fn full_entry<'a>(
 {
     let written = &kept.written;
     let transaction = written.transaction();
-    let marks = details.told(transaction.marks.as_slice());
     let parts = EntryParts {
         payee: payee_of(alloc, &transaction.payee)?,
         narration: PlainText::of(alloc, &transaction.narration)?,
-        tags: tags_of(alloc, none, marks)?,
-        links: links_of(alloc, none, marks)?,
+        tags: tags_of(alloc, none, details.items(transaction.marks.items()))?,
+        links: links_of(alloc, none, details.items(transaction.marks.items()))?,
         accounts: accounts_of(alloc, details, kept.postings.as_slice())?,
-        metadata: metadata_of(alloc, details.told(written.metadata()))?,
+        metadata: metadata_of(alloc, details.items(written.metadata()))?,
         date: written.day(),
         flag: EntryFlag::Written(transaction.flag),
     };

@@ -7,6 +7,7 @@ ghost use Rattle.bean_book.specs.Metadata as spec;
 
 use bean_base::{Amount, Day, Num, Slice};
 use bean_grammar::{MetaEntry, Value};
+use given_items::Items;
 use number_texts::{push_day, push_number};
 use posting_entries::{MetaItem, Metadata, PlainText};
 use std::alloc::{AllocError, Global};
@@ -77,11 +78,12 @@ fn text_of<'a>(alloc: Global, value: &Value<'a>) -> Result<Option<PlainText<'a>>
 /// Entries as texts under their keys, where there are some. It stays out of what is done for each
 /// transaction.
 #[inline(never)]
-fn made_of<'a>(alloc: Global, entries: &[MetaEntry<'a>]) -> Result<Metadata<'a>, AllocError>
-    ensures { IfOk result (λ metadata. metadata ≡ spec.items_of entries.now) }
+fn made_of<'a>(alloc: Global, entries: Items<'_, MetaEntry<'a>>) -> Result<Metadata<'a>, AllocError>
+    ensures { IfOk result (λ metadata. metadata ≡ spec.items_of entries.entry) }
 {
-    let mut items = Vec::with_capacity(alloc, entries.len())?;
-    for entry in entries {
+    let mut items = Vec::with_capacity(alloc, entries.at_least())?;
+    let mut rest = entries;
+    while let Some(entry) = rest.next_item() {
         items.push(MetaItem {
             key: Slice::new(entry.key.text()),
             text: text_of(alloc, &entry.value)?,
@@ -93,9 +95,9 @@ fn made_of<'a>(alloc: Global, entries: &[MetaEntry<'a>]) -> Result<Metadata<'a>,
 /// Entries as texts under their keys.
 pub(crate) fn metadata_of<'a>(
     alloc: Global,
-    entries: &[MetaEntry<'a>],
+    entries: Items<'_, MetaEntry<'a>>,
 ) -> Result<Metadata<'a>, AllocError>
-    ensures { IfOk result (λ metadata. metadata ≡ spec.items_of entries.now) }
+    ensures { IfOk result (λ metadata. metadata ≡ spec.items_of entries.entry) }
 {
     if entries.is_empty() {
         return Ok(Metadata::empty());

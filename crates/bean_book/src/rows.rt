@@ -21,6 +21,7 @@ use bean_lots::{Key, Position};
 use bean_postings::{Price, WrittenPosting};
 use bean_replay::Kept;
 use bean_transactions::whole;
+use given_items::Items;
 use posting_entries::{Entry, Metadata, NoExtras, Shared};
 use posting_table::{Ledger, PlainRow, Row, Weight};
 use std::alloc::{AllocError, Global};
@@ -46,7 +47,7 @@ fn noted_at<'a>(
         ≡ spec.items_in details (slice_get postings.now written)) }
 {
     let metadata = match postings.get(written) {
-        Some(posting) => metadata_of(alloc, details.told(posting.metadata()))?,
+        Some(posting) => metadata_of(alloc, Items::of(details.told(posting.metadata())))?,
         None => Metadata::empty(),
     };
     Ok(Noted { written, metadata })

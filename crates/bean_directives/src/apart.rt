@@ -1,11 +1,14 @@
 //! Directives that lie in memory of their own.
 ghost use Rattle.std.specs.Prelude.{◌≡◌, IfOk, OnOk};
-ghost use Rattle.bean_directives.specs.Given.{with_postings, with_pushed};
+ghost use Rattle.bean_directives.specs.Given.{with_given, with_postings, with_pushed};
+ghost use Rattle.given_items.specs.Given.{given_at};
 
-use crate::directive::Directive;
+use crate::directive::{Directive, DirectiveKind};
 use crate::stretch::Stretch;
 use crate::undated::Pushed;
+use bean_grammar::{Mark, MetaEntry};
 use bean_postings::WrittenPosting;
+use given_items::GivenItems;
 use std::alloc::{AllocError, Global};
 use std::marker::Model;
 
@@ -63,10 +66,35 @@ impl<'a> ApartDirective<'a> {
         self.place.give_postings(postings);
     }
 
-    /// Gives a transaction what is pushed, where it lies.
+    /// Gives a transaction what is pushed, behind its own tags and entries.
     pub fn give(&mut self, alloc: Global, pushed: &Pushed<'a>) -> Result<(), AllocError>
         ensures { OnOk result (self.new ≡ with_pushed pushed.now self.old) }
     {
-        self.place.give(alloc, pushed)
+        if let DirectiveKind::Transaction(transaction) = &mut self.place.kind {
+            match pushed {
+                Pushed::Tag(tag) => transaction.marks.push(alloc, Mark::Tag(tag.lend()))?,
+                Pushed::Entry(entry) => self.place.metadata.push(alloc, entry.lend())?,
+            }
+        }
+        Ok(())
+    }
+
+    /// Gives a transaction those of a text's tags and entries that are given at its place, behind its
+    /// own.
+    pub fn give_shared(
+        &mut self,
+        alloc: Global,
+        tags: &GivenItems<Mark<'a>>,
+        entries: &GivenItems<MetaEntry<'a>>,
+        place: usize,
+    ) -> Result<(), AllocError>
+        ensures { OnOk result (self.new
+            ≡ with_given (given_at place tags.now) (given_at place entries.now) self.old) }
+    {
+        if let DirectiveKind::Transaction(transaction) = &mut self.place.kind {
+            transaction.marks.give(alloc, tags, place)?;
+            self.place.metadata.give(alloc, entries, place)?;
+        }
+        Ok(())
     }
 }

@@ -5,11 +5,11 @@ use crate::notes::{Custom, Document, Event, Note, Query};
 use crate::numbers::{Balance, Commodity, Price};
 use crate::stretch::Stretch;
 use crate::transaction::Transaction;
-use crate::undated::Pushed;
-use bean_base::{Apart, Day, Few};
-use bean_grammar::{Mark, MetaEntry};
+use bean_base::{Apart, Day};
+use bean_grammar::MetaEntry;
 use bean_postings::WrittenPosting;
-use std::alloc::{AllocError, Global};
+use given_items::WithGiven;
+use std::alloc::Global;
 
 /// What a directive does. What few directives have, and is large, lies apart.
 pub enum DirectiveKind<'a> {
@@ -73,15 +73,15 @@ pub struct Directive<'a> {
     pub day: Day,
     /// The line on which it begins, from 1.
     pub line: u32,
-    /// Its own entries in the order in which they are written, then those that are pushed to it,
-    /// the latest push first. The first entry of a key stands.
-    pub metadata: Few<MetaEntry<'a>>,
+    /// Its own entries in the order in which they are written, then those that are pushed to it, in the
+    /// order of the bounds behind which they are given. The first entry of a key stands.
+    pub metadata: WithGiven<MetaEntry<'a>>,
     pub kind: DirectiveKind<'a>,
 }
 
 impl<'a> Directive<'a> {
-    ghost use Rattle.std.specs.Prelude.{◌≡◌, MatchOption, OnOk};
-    ghost use Rattle.bean_directives.specs.Given.{with_postings, with_pushed};
+    ghost use Rattle.std.specs.Prelude.{◌≡◌, MatchOption};
+    ghost use Rattle.bean_directives.specs.Given.{with_postings};
 
     /// Gives a transaction its postings, which stand in a block that is full by now.
     #[inline(always)]
@@ -102,18 +102,5 @@ impl<'a> Directive<'a> {
             DirectiveKind::Transaction(transaction) => transaction.postings.take_own(alloc),
             _ => None,
         }
-    }
-
-    /// Gives a transaction what is pushed, behind its own tags and entries.
-    pub fn give(&mut self, alloc: Global, pushed: &Pushed<'a>) -> Result<(), AllocError>
-        ensures { OnOk result (self.new ≡ with_pushed pushed.now self.old) }
-    {
-        if let DirectiveKind::Transaction(transaction) = &mut self.kind {
-            match pushed {
-                Pushed::Tag(tag) => transaction.marks.push(alloc, Mark::Tag(tag.lend()))?,
-                Pushed::Entry(entry) => self.metadata.push(alloc, entry.lend())?,
-            }
-        }
-        Ok(())
     }
 }

@@ -13,12 +13,13 @@ use crate::notes::{custom_line, document_line, event_line, note_line, query_line
 use crate::numbers::{balance_line, commodity_line, price_line};
 use crate::stretch::Stretch;
 use crate::transaction::{Transaction, transaction_line, words};
-use bean_base::{Day, Few, Flag};
+use bean_base::{Day, Flag};
 use bean_grammar::Ranged;
 use bean_grammar::front::next;
 use bean_grammar::literal::day;
 use bean_lexer::{Keyword, Kind, Sign, Token};
 use bean_postings::posting_line::after_flag_sign;
+use given_items::WithGiven;
 use std::alloc::{AllocError, Global};
 
 /// What stands behind a word that tells the kind, and what stands behind that. It stays a call of its
@@ -131,7 +132,7 @@ pub fn plain_head<'a>(line: &[Token<'a>]) -> Option<(Day, Transaction<'a>)>
                 flag,
                 payee: words.payee,
                 narration: words.narration,
-                marks: Few::new(),
+                marks: WithGiven::new(),
                 postings: Stretch::new(),
             };
             Some((day, transaction))

@@ -7,12 +7,13 @@ ghost use Rattle.bean_directives.specs.Head as rule;
 use crate::directive::DirectiveKind;
 use crate::payee::Payee;
 use crate::stretch::Stretch;
-use bean_base::{Few, Flag, Text};
+use bean_base::{Flag, Text};
 use bean_grammar::literal::text_if_due;
 use bean_grammar::mark::marks;
 use bean_grammar::{Mark, Ranged};
 use bean_lexer::Token;
 use bean_postings::WrittenPosting;
+use given_items::WithGiven;
 use std::alloc::{AllocError, Global};
 
 /// A change of accounts.
@@ -24,7 +25,7 @@ pub struct Transaction<'a> {
     pub narration: Text<'a>,
     /// Its tags and links in the order in which they are written, then the tags that are pushed to
     /// it. A mark may stand twice.
-    pub marks: Few<Mark<'a>>,
+    pub marks: WithGiven<Mark<'a>>,
     /// In a block with those of other transactions, where nothing but postings stands under it.
     pub postings: Stretch<WrittenPosting<'a>>,
 }
@@ -77,7 +78,7 @@ pub fn transaction_line<'t, 'a>(
 {
     let (words, rest) = words(tokens);
     let (written, rest) = marks(alloc, rest)?;
-    let marks = Few::of(alloc, written)?;
+    let marks = WithGiven::of(alloc, written)?;
     let transaction = Transaction {
         flag,
         payee: words.payee,

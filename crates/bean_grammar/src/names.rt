@@ -84,6 +84,15 @@ impl<'a> Link<'a> {
     {
         self.name.text()
     }
+
+    /// The same link once more.
+    pub fn lend(&self) -> Link<'a>
+        ensures { result ≡ self.now }
+    {
+        Link {
+            name: self.name.lend(),
+        }
+    }
 }
 
 /// The key of a metadata entry, without its colon.

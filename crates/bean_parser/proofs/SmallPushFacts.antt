@@ -17,7 +17,7 @@ use Rattle.bean_directives.specs.declared.undated.PushName.{PushName}
 use Rattle.bean_directives.specs.declared.undated.UndatedKind.{UndatedKind}
 use Rattle.bean_directives.specs.declared.undated.UndatedKind.TheVariants as undated
 use Rattle.bean_parser.specs.Parsed.{directives_in, bounds_of, all_bounds}
-use Rattle.bean_directives.specs.Given.{with_tag, entries_with, with_pushed}
+use Rattle.bean_directives.specs.Given.{with_tag, entries_behind, with_pushed}
 use Rattle.bean_pushes.specs.Scope.{given_between, given_up_to}
 use Rattle.bean_pushes.specs.Scope.{given_behind, with_pushes, name_in, name_of, same_name, latest}
 use Rattle.bean_pushes.specs.Scope.{open_behind, open_pushes, reach_of}
@@ -65,7 +65,7 @@ tag_marks tag (kinds.Transaction t) =
 tag_marks tag _ = omega arith
 
 entries_short : (k : DirectiveKind) (es : List MetaEntry) (e : MetaEntry) → AllByRecursion IsShortEntry es
-    → IsShortEntry e → AllByRecursion IsShortEntry (entries_with k es e)
+    → IsShortEntry e → AllByRecursion IsShortEntry (entries_behind k es (e ∷ []))
 entries_short (kinds.Transaction t) es e h s = all_pushed IsShortEntry es e h s
 entries_short _ es e h s = h
 

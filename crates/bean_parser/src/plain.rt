@@ -16,7 +16,7 @@ ghost use Rattle.bean_parser.specs.Under.{said_posting};
 
 use crate::block::{fault_line, is_in_column_one, kept_line};
 use crate::part::first_line;
-use bean_base::{Day, Few};
+use bean_base::Day;
 use bean_directives::head::{head, plain_head};
 use bean_directives::{Directive, DirectiveKind, Transaction};
 use bean_grammar::Ranged;
@@ -27,6 +27,7 @@ use expected_tokens::{
     is_before_column_one, next_account, next_currency, next_minus, next_number,
     next_past_column_one,
 };
+use given_items::WithGiven;
 use std::alloc::{AllocError, Global};
 
 /// The transaction that a first line is which isn't plain. It stays a call of its own, since nearly all are.
@@ -77,7 +78,7 @@ pub fn head_of<'a>(alloc: Global, line: &[Token<'a>]) -> Result<Option<Directive
         Some((day, transaction)) => Ok(Some(Directive {
             day,
             line: number,
-            metadata: Few::new(),
+            metadata: WithGiven::new(),
             kind: DirectiveKind::Transaction(transaction),
         })),
         None => Ok(None),

@@ -10,7 +10,7 @@ ghost use Rattle.bean_parser.specs.Reading.{ReadsLines, ReadsLine};
 ghost use Rattle.bean_parser.specs.Under as rule;
 
 use crate::part::{Part, first_line, first_part};
-use bean_base::{Few, List};
+use bean_base::List;
 use bean_grammar::entry::entry;
 use bean_grammar::front::{after_key, after_link, after_tag, next};
 use bean_grammar::mark::line_of_marks;
@@ -18,6 +18,7 @@ use bean_grammar::{Mark, MetaEntry, Ranged};
 use bean_lexer::Token;
 use bean_postings::WrittenPosting;
 use bean_postings::posting_line::posting;
+use given_items::WithGiven;
 use std::alloc::{AllocError, Global};
 
 /// What a line says.
@@ -32,7 +33,7 @@ pub enum LineKind<'a> {
 #[derive(Drop)]
 pub struct Body<'a> {
     /// The entries above all postings.
-    pub metadata: Few<MetaEntry<'a>>,
+    pub metadata: WithGiven<MetaEntry<'a>>,
     pub marks: List<Mark<'a>>,
     /// The postings but the last.
     pub before: List<WrittenPosting<'a>>,
@@ -117,7 +118,7 @@ impl<'a> Body<'a> {
         ensures { result ≡ rule.no_lines }
     {
         Body {
-            metadata: Few::new(),
+            metadata: WithGiven::new(),
             marks: List::new(Vec::new(alloc)),
             before: List::new(Vec::new(alloc)),
             last: None,

@@ -1,3 +1,4 @@
 pub mod ScopeFacts
+pub mod GiftFacts
 pub mod MatchFacts
 mod Examples

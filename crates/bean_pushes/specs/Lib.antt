@@ -1,2 +1,3 @@
 pub mod Scope
 pub mod Matches
+pub mod Gifts

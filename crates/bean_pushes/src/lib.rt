@@ -19,10 +19,13 @@
 //!
 //! # Cost
 //!
-//! Each tag and key that is open looks at each directive, once however often it is pushed. It takes
-//! memory for the names of pushes and pops, and for what it gives.
+//! Up to eight items for each directive of a text are given at once, and the directives have them as
+//! their own. What is pushed beyond that stands once for all directives, each of which is told its
+//! place alone: however much is open, that takes the same time and memory. Names of pushes and pops
+//! take memory while they are matched.
 #![tactic(auto)]
 
+mod gifts;
 mod matches;
 mod scope;
 

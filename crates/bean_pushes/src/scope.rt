@@ -1,5 +1,5 @@
 //! Pushes and pops: what is given to the transactions between them.
-ghost use Rattle.std.specs.Prelude.{◌≡◌, ◌++◌, ◌∷◌, [], IfOk, OnOk, option_copied};
+ghost use Rattle.std.specs.Prelude.{◌≡◌, ◌++◌, ◌∷◌, [], IfOk, OnOk};
 ghost use Rattle.std.specs.Prelude as prelude;
 ghost use Rattle.bean_directives.specs.declared.undated.PushName as names;
 ghost use Rattle.bean_directives.specs.declared.undated.Pushed as pushed_declared;
@@ -7,9 +7,10 @@ ghost use Rattle.bean_pushes.specs.Matches.{open_in, reaches_of};
 ghost use Rattle.bean_pushes.specs.Scope as spec;
 ghost use Rattle.bean_pushes.specs.declared.scope.PlacedBound as placed;
 
+use crate::gifts::Gifts;
 use crate::matches::{Opens, name_in};
 use bean_base::{Fault, FaultKind, Place};
-use bean_directives::{ApartDirective, Bound, Pushed};
+use bean_directives::{ApartDirective, Bound};
 use std::alloc::{AllocError, Global};
 
 /// Where a scope begins or ends, with its place.
@@ -78,43 +79,6 @@ pub fn add_unmatched<'a>(
     Ok(())
 }
 
-/// Gives what is pushed to the transactions from one place up to another.
-fn give_between<'a>(
-    alloc: Global,
-    pushed: &Pushed<'a>,
-    from: usize,
-    to: usize,
-    directives: &mut Vec<ApartDirective<'a>>,
-) -> Result<(), AllocError>
-    ensures { OnOk result (directives.new.items
-        ≡ spec.given_between pushed.now from to 0 directives.old.items) }
-{
-    let mut i = from;
-    while i < to && i < directives.len() {
-        directives[i].give(alloc, pushed)?;
-        i += 1;
-    }
-    Ok(())
-}
-
-/// Gives what is pushed, if anything is, to the transactions from one place up to another, if
-/// there is one.
-fn give_up_to<'a>(
-    alloc: Global,
-    pushed: Option<&Pushed<'a>>,
-    from: usize,
-    to: Option<usize>,
-    directives: &mut Vec<ApartDirective<'a>>,
-) -> Result<(), AllocError>
-    ensures { OnOk result (directives.new.items
-        ≡ spec.given_up_to (option_copied pushed.entry) from to directives.old.items) }
-{
-    match (pushed, to) {
-        (Some(pushed), Some(to)) => give_between(alloc, pushed, from, to, directives),
-        (_, _) => Ok(()),
-    }
-}
-
 /// Gives what stands of each name, from each bound of it up to the next.
 pub fn give_all<'a>(
     alloc: Global,
@@ -127,13 +91,15 @@ pub fn give_all<'a>(
         ≡ spec.with_pushes [] bounds.now directives.old.items) }
 {
     let mut opens = Opens::new(alloc);
+    let mut gifts = Gifts::new(alloc, directives.len());
     let mut i = 0;
     while i < bounds.len() {
         let bound = &bounds[i];
         opens.take(alloc, &bound.bound)?;
         let latest = opens.latest(&name_in(&bound.bound));
-        give_up_to(alloc, latest, bound.place, reaches[i], directives)?;
+        let to = reaches[i];
+        gifts.add(alloc, latest, bound.place, to, directives)?;
         i += 1;
     }
-    Ok(())
+    gifts.give(alloc, directives)
 }

@@ -5,10 +5,11 @@ ghost use Rattle.bean_directives.specs.declared.transaction.Transaction.{Transac
 ghost use Rattle.bean_replay.specs.Stand.{written_in};
 ghost use Rattle.bean_replay.specs.Written as spec;
 
-use bean_base::{Day, Few, Place};
+use bean_base::{Day, Place};
 use bean_directives::{ApartDirective, DirectiveKind, Transaction};
 use bean_grammar::MetaEntry;
 use bean_loaded::Placed;
+use given_items::{Items, WithGiven};
 use std::marker::Model;
 
 /// What is known of a transaction that is written.
@@ -16,7 +17,7 @@ use std::marker::Model;
 pub struct WrittenParts<'a> {
     pub day: Day,
     pub place: Place,
-    pub metadata: Few<MetaEntry<'a>>,
+    pub metadata: WithGiven<MetaEntry<'a>>,
     pub transaction: Transaction<'a>,
 }
 
@@ -97,11 +98,11 @@ impl<'a> Written<'a> {
         }
     }
 
-    /// Its metadata.
-    pub fn metadata(&self) -> &[MetaEntry<'a>]
-        ensures { result.now ≡ self.now.metadata }
+    /// Its metadata, one entry after the other.
+    pub fn metadata(&self) -> Items<'_, MetaEntry<'a>>
+        ensures { result ≡ self.now.metadata }
     {
-        self.directive.get().metadata.as_slice()
+        self.directive.get().metadata.items()
     }
 
     /// What is written.

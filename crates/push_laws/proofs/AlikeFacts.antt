@@ -19,7 +19,7 @@ use Rattle.bean_directives.specs.declared.undated.PushName.TheVariants as names
 use Rattle.bean_grammar.specs.declared.mark.Mark.{Mark}
 use Rattle.bean_grammar.specs.declared.mark.Mark.TheVariants as mark
 use Rattle.bean_grammar.specs.declared.metadata.MetaEntry.{MetaEntry}
-use Rattle.bean_directives.specs.Given.{entries_with, with_pushed, with_tag}
+use Rattle.bean_directives.specs.Given.{entries_behind, with_pushed, with_tag}
 use Rattle.bean_pushes.specs.Scope.{name_of, with_pushes}
 use Rattle.push_laws.proofs.FirstFacts.{first_of, same_first}
 use Rattle.push_laws.proofs.GivenFacts.{each_at, each_given, given, latest_given, with_each_is}
@@ -126,7 +126,7 @@ module _ (d : Directive) (t : Transaction) (ps qs : List Pushed)
 abbrev TakesNothing : DirectiveKind → Type 0
 TakesNothing k =
     ((tag : List ℕ) → with_tag tag k ≡ k)
-    × ((es : List MetaEntry) (e : MetaEntry) → entries_with k es e ≡ es)
+    × ((es : List MetaEntry) (e : MetaEntry) → entries_behind k es (e ∷ []) ≡ es)
 
 abbrev Sort : DirectiveKind → Type 0
 Sort k = ((t : Transaction) × (k ≡ kinds.Transaction t)) ⊎ TakesNothing k

@@ -1,6 +1,9 @@
-use Rattle.std.proofs.Common.{◌≡◌, map, take}
+use Rattle.std.proofs.Common.{◌≡◌, ◌++◌, length, map}
 use Rattle.bean_book.specs.Metadata.{item_of}
 use Rattle.bean_book.proofs.metadata.made_of.Given as goal
 
 abbrev pub invariant-loop-entry : goal.invariant-loop-entry
-invariant-loop-entry l = l.items.items ≡ map item_of (take l.entry-index l.entries)
+invariant-loop-entry l = l.items.items ++ map item_of l.rest ≡ map item_of l.fn.entries
+
+abbrev pub decreases-loop-entry : goal.decreases-loop-entry
+decreases-loop-entry l = length l.rest

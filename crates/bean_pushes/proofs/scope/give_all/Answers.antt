@@ -1,6 +1,7 @@
 use Rattle.std.proofs.Common.{◌≡◌, ◌+◌, ◌∙◌, sym, ap, drop, take, arith}
 use Rattle.std.proofs.Common.{◌++◌, ◌∷◌, []}
 use Rattle.bean_directives.specs.declared.undated.PushName.{PushName}
+use Rattle.bean_pushes.specs.Gifts.{with_gifts}
 use Rattle.bean_pushes.specs.Matches.{open_in}
 use Rattle.bean_pushes.specs.Scope.{latest, name_in, open_pushes, reach_of}
 use Rattle.bean_pushes.specs.Scope.{with_pushes}
@@ -12,6 +13,13 @@ pub bounds-reaches-i : goal.bounds-reaches-i
 bounds-reaches-i c =
     few_reaches c.args.bounds.now c.args.reaches.now c.loop-i.i c.requires c.loop-i-test.true
 
+pub loop-i-init : goal.loop-i-init
+loop-i-init c = record {
+  left = ap (with_pushes [] c.args.bounds.now) (c.new-gifts.ensures c.args.directives.now.items);
+  pushes = c.new-opens.ensures;
+  inside = omega arith;
+}
+
 pub loop-i-preserved : goal.loop-i-preserved
 loop-i-preserved c =
     let bounds = c.args.bounds.now in
@@ -21,7 +29,8 @@ loop-i-preserved c =
     let before = take i bounds in
     let behind = drop (i + 1) bounds in
     let name = name_in b.bound in
-    let old = c.loop-i.directives.items in
+    let old = with_gifts c.loop-i.gifts c.loop-i.directives.items in
+    let new = with_gifts c.add.new.self c.add.new.directives.items in
     let opens = c.take.new.self in
     let front = take_next bounds i (i + 1) b (omega arith) inside c.index-bounds-i.is in
     let cut = drop_is bounds i (i + 1) b (omega arith) inside c.index-bounds-i.is in
@@ -31,10 +40,10 @@ loop-i-preserved c =
     c.latest-latest.ensures ∙ ap (λ n. latest (open_in opens n)) c.name_in.ensures
     ∙ ap latest (pushes name) in
     record {
-      left = ap (λ t. with_pushes t behind c.give_up_to.new.directives.items) front
+      left = ap (λ t. with_pushes t behind new) front
           ∙ ap (with_pushes (before ++ b ∷ []) behind)
           (given_as _ (latest (open_pushes name [] (before ++ b ∷ []))) _ (reach_of name behind)
-          b.place old c.give_up_to.new.directives.items c.in_ok-give_up_to.ensures is_latest
+          b.place old new c.in_ok-add.ensures is_latest
           (reach_is bounds c.args.reaches.now i (i + 1) b _ c.requires (omega arith) inside
           c.index-bounds-i.is))
           ∙ sym (ap (λ bs. with_pushes before bs old) cut)

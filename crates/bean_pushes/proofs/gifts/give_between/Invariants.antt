@@ -1,6 +1,6 @@
 use Rattle.std.proofs.Common.{◌≡◌, ◌-◌}
 use Rattle.bean_pushes.specs.Scope.{given_between}
-use Rattle.bean_pushes.proofs.scope.give_between.Given as goal
+use Rattle.bean_pushes.proofs.gifts.give_between.Given as goal
 
 abbrev pub invariant-loop-i : goal.invariant-loop-i
 invariant-loop-i l =

@@ -2,7 +2,7 @@ use Rattle.std.proofs.Common.{◌≤◌, ◌<◌, ◌∙◌, sym, ap, length, ar
 use Rattle.std.proofs.lemmas.Grind.{common_steps}
 use Rattle.bean_directives.specs.Given.{with_pushed}
 use Rattle.bean_pushes.proofs.ScopeFacts.{given_next, given_past, reach}
-use Rattle.bean_pushes.proofs.scope.give_between.Goals as goal
+use Rattle.bean_pushes.proofs.gifts.give_between.Goals as goal
 
 pub loop-i-preserved : goal.loop-i-preserved
 loop-i-preserved c =
