@@ -13,6 +13,7 @@ sys.path[:0] = [os.environ["ORACLE"], HERE]
 import ledgers
 import queries
 import programs
+import pushes
 from code import Refusal, decode, encode, show, upgrade
 from compiler import CompileFault, compile_query
 from ledger import book_texts
@@ -119,6 +120,8 @@ def jobs(r, kind):
         return [("verify", a_program(r) if r.random() < .5 else programs.changed(r, a_program(r))) for _ in range(40)]
     if kind == "mutants":
         return [("verify" if r.random() < .6 else "run", mutant(r)) for _ in range(20)]
+    if kind == "pushes":
+        return [("query", pushes.query(r).encode()) for _ in range(2)]
     if kind == "ledgers":
         return [("query", b"SELECT date, flag, account, position"), ("query", b"SELECT payee, narration, tags, links, posting_flag, weight, price, lineno, cost_date, cost_label, meta('k'), entry_meta('key'), any_meta('note_x')")]
     raise ValueError(kind)
@@ -249,6 +252,8 @@ def make(folder, kind, count, seed):
     while done < count:
         if kind in ("ledgers", "queries"):
             l = ledgers.ledger(r)
+        elif kind == "pushes":
+            l = pushes.ledger(r)
         else:
             l = ledgers.ledger(r, r.choice([0, 2, 5, 10]), "calm")
         try:
